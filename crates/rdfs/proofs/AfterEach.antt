@@ -1,0 +1,84 @@
+-- After each ticket of a list, whatever its bytes: every rule holds, a refusal changed nothing, the asked facts are there or the fact is gone,
+-- an insertion removed nothing and a deletion added nothing. Assumes nothing.
+use Prim.Native.Nat.{ℕ}
+use mathlib.Core.Path.{_≡_, refl, sym, ap, subst, _∙_}
+use mathlib.Core.Bool.{Bool}
+use mathlib.Core.Logic.{_⊎_, inl, inr, ⊎-elim}
+use mathlib.Core.List.{List, [], _∷_, _++_}
+use native.Mathlib.Decide.{ℕ-discrete}
+use lib.Dec.{T}
+use lib.ListN.{length}
+use Rattle.rdfs.specs.Numbers.{Numbers, Sound}
+use Rattle.rdfs.specs.Lists.{_∈_, _⊆_}
+use Rattle.rdfs.specs.Facts.{Fact}
+use Rattle.rdfs.specs.Words.{filled, facts, words}
+use Rattle.rdfs.specs.Tickets.{decoded, inserts, deletes, named, asked}
+use Rattle.rdfs.specs.Register.{Answer, step, run, Done, Table}
+use Rattle.rdfs.proofs.Tables.{words-sub}
+use Rattle.rdfs.proofs.LaidOut.{laid-words}
+use Rattle.rdfs.proofs.Counts.{besides-none}
+use Rattle.rdfs.proofs.TicketTests.{known-operation}
+use Rattle.rdfs.proofs.Refusals.{new, Formed, Passed, passed}
+use Rattle.rdfs.proofs.Steps.{Kept, step-number, refused-keeps, accepted-leaves}
+use Rattle.rdfs.proofs.InsertionSteps.{accepted-smallest, insertion-table, insertion-grows}
+use Rattle.rdfs.proofs.DeletionSteps.{accepted-largest, deletion-table, deletion-shrinks}
+
+-- What holds after one ticket on the words of a table.
+pub record After (N : Numbers) (w bytes : List ℕ) : Type 0 where
+  pub rules : Table N (step N w bytes .table)
+  pub refused : (step N w bytes .number ≡ 0 → ⊥) → (step N w bytes .table ≡ w) × (step N w bytes .added ≡ 0) × (step N w bytes .removed ≡ 0)
+  pub there-are : step N w bytes .number ≡ 0 → T (inserts (decoded bytes)) → asked (decoded bytes) ⊆ facts N (step N w bytes .table)
+  pub is-gone : step N w bytes .number ≡ 0 → T (deletes (decoded bytes)) → named (decoded bytes) ∈ facts N (step N w bytes .table) → ⊥
+  pub grows : T (inserts (decoded bytes)) → (step N w bytes .removed ≡ 0) × (facts N w ⊆ facts N (step N w bytes .table))
+  pub shrinks : T (deletes (decoded bytes)) → (step N w bytes .added ≡ 0) × (facts N (step N w bytes .table) ⊆ facts N w)
+
+module _ (N : Numbers) (s : Sound N) where
+  module _ (w bytes : List ℕ) (t : Table N w) where
+    formed : step N w bytes .number ≡ 0 → Formed N bytes
+    formed e = passed N w bytes (sym (step-number N w bytes) ∙ e) .formed
+
+    kept : (step N w bytes .number ≡ 0 → ⊥) → (step N w bytes .table ≡ w) × (step N w bytes .added ≡ 0) × (step N w bytes .removed ≡ 0)
+    kept n = let k = refused-keeps N w bytes n in (k .table, k .added, k .removed)
+
+    same : (n : step N w bytes .number ≡ 0 → ⊥) → facts N (step N w bytes .table) ≡ facts N w
+    same n = ap (facts N) (kept n .0)
+
+    ruled : Dec (step N w bytes .number ≡ 0) → Table N (step N w bytes .table)
+    ruled (no n) = subst (Table N) (sym (kept n .0)) t
+    ruled (yes e) = ⊎-elim (λ i. insertion-table N s w bytes t i e) (λ d. deletion-table N s w bytes t d (formed e)) (known-operation (decoded bytes) (formed e .operation))
+
+    pub after : After N w bytes
+    after = record {
+      rules = ruled (ℕ-discrete (step N w bytes .number) 0);
+      refused = kept;
+      there-are = λ e i. accepted-smallest N s w bytes t i e .holds-asked;
+      is-gone = λ e d. accepted-largest N s w bytes t d (formed e) .without;
+      grows = λ i. elim (ℕ-discrete (step N w bytes .number) 0) [
+        | yes e ↦ (insertion-grows N s w bytes t i e, accepted-smallest N s w bytes t i e .holds-table)
+        | no n ↦ (kept n .2, λ f h. subst (λ L. f ∈ L) (sym (same n)) h)
+      ];
+      shrinks = λ d. elim (ℕ-discrete (step N w bytes .number) 0) [
+        | yes e ↦ (deletion-shrinks N s w bytes t d (formed e), accepted-largest N s w bytes t d (formed e) .part)
+        | no n ↦ (kept n .1, λ f h. subst (λ L. f ∈ L) (same n) h)
+      ];
+    }
+
+  -- A run leaves a consistent table.
+  pub run-table : (l : List (List ℕ)) (w : List ℕ) → Table N w → Table N (run N w l .table)
+  unfolding run
+  run-table [] w t = t
+  run-table (b ∷ l) w t = run-table l (step N w b .table) (after w b t .rules)
+
+  -- After each ticket of a list, the list cut off there.
+  pub after-each : (w : List ℕ) → Table N w → (before : List (List ℕ)) (t : List ℕ) → After N (run N w before .table) t
+  after-each w t before b = after (run N w before .table) b (run-table before w t)
+
+-- A run cut in two.
+pub run-append : (N : Numbers) (l m : List (List ℕ)) (w : List ℕ) → (run N w (l ++ m) .table ≡ run N (run N w l .table) m .table)
+    × (run N w (l ++ m) .numbers ≡ run N w l .numbers ++ run N (run N w l .table) m .numbers)
+    × (run N w (l ++ m) .counts ≡ run N w l .counts ++ run N (run N w l .table) m .counts)
+unfolding run
+run-append N [] m w = (refl, refl, refl)
+run-append N (b ∷ l) m w =
+    let r = run-append N l m (step N w b .table) in
+    (r .0, ap {B = List ℕ} (λ v. step N w b .number ∷ v) (r .1), ap {B = List ℕ} (λ v. step N w b .added ∷ step N w b .removed ∷ v) (r .2))

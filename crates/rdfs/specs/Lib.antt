@@ -1,0 +1,14 @@
+pub mod Numbers
+pub mod Lists
+pub mod Facts
+pub mod Rules
+pub mod Consistency
+pub mod Words
+pub mod Demands
+pub mod Clashes
+pub mod Insertion
+pub mod Deletion
+pub mod Tickets
+pub mod Register
+pub mod Lookups
+pub mod Orders

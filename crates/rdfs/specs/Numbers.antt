@@ -1,0 +1,32 @@
+-- The numbers of document 01, in one place. Definitions and theorems take the first three as parameters.
+use Prim.Native.Nat.{ℕ, zero, suc, _≤_, _<_}
+use mathlib.Core.Bool.{Bool, true, false, cond}
+use mathlib.Core.List.{List, [], _∷_}
+use lib.Dec.{eqb, leb}
+
+-- The highest id; the base at which a word's kind and ids are digits; the most words of a table.
+pub record Numbers : Type 0 where
+  pub top : ℕ
+  pub base : ℕ
+  pub most : ℕ
+
+-- The mark Literal is an id, and every id is a digit.
+pub record Sound (N : Numbers) : Type 0 where
+  pub mark : 1 ≤ N .top
+  pub digit : N .top < N .base
+
+-- The product's values.
+abbrev pub product : Numbers
+product = record { top = 255; base = 256; most = 2048 }
+
+-- The bytes of a ticket: operation, kind, a, b, c.
+abbrev pub recordLength : ℕ
+recordLength = 5
+
+-- How many ids a fact of a kind has; 0 if the number is no kind.
+abbrev pub arity : ℕ → ℕ
+arity k = cond (eqb k 0) 0 (cond (leb k 4) 1 (cond (leb k 9) 2 (cond (eqb k 10) 3 0)))
+
+-- The kinds that a ticket may have.
+abbrev pub ticketKinds : List ℕ
+ticketKinds = 1 ∷ 2 ∷ 3 ∷ 4 ∷ 5 ∷ 6 ∷ 9 ∷ 10 ∷ []

@@ -1,0 +1,39 @@
+-- Lists of tickets: rearrangements, and the properties that tickets use and make.
+use Prim.Native.Nat.{ℕ, zero, suc}
+use mathlib.Core.Path.{_≡_}
+use mathlib.Core.Bool.{Bool, true, false, _&&_}
+use mathlib.Core.Logic.{_⊎_}
+use mathlib.Core.List.{List, [], _∷_, _++_}
+use lib.Dec.{T, eqb}
+use Rattle.rdfs.specs.Lists.{_∈_, count}
+use Rattle.rdfs.specs.Facts.{Fact, pr}
+use Rattle.rdfs.specs.Tickets.{Ticket, decoded, inserts, makesProperty}
+
+-- The same bytes.
+abbrev pub sameBytes : List ℕ → List ℕ → Bool
+sameBytes [] [] = true
+sameBytes [] (y ∷ m) = false
+sameBytes (x ∷ l) [] = false
+sameBytes (x ∷ l) (y ∷ m) = eqb x y && sameBytes l m
+
+-- The same tickets, each as often.
+abbrev pub SameTickets : List (List ℕ) → List (List ℕ) → Type 0
+SameTickets l m = (t : List ℕ) → count (sameBytes t) l ≡ count (sameBytes t) m
+
+-- A ticket uses a property if it is PSub with it as a or b, or PI with it as c.
+abbrev pub Uses : Ticket → ℕ → Type 0
+Uses t p = ((t .kind ≡ 6) × ((p ≡ t .a) ⊎ (p ≡ t .b))) ⊎ ((t .kind ≡ 10) × (p ≡ t .c))
+
+-- Before each ticket that uses a new property there is an insertion of kind 2 with that property as a. A property is new if the table at the
+-- start lacks it.
+abbrev pub InOrder : List Fact → List (List ℕ) → Type 0
+InOrder K l =
+    (before after : List (List ℕ)) (t : List ℕ) (p : ℕ) → l ≡ before ++ (t ∷ after) → Uses (decoded t) p → (pr p ∈ K → ⊥)
+    → (u : List ℕ) × (u ∈ before) × T (makesProperty (decoded u)) × (decoded u .a ≡ p)
+
+abbrev pub AllInsertions : List (List ℕ) → Type 0
+AllInsertions l = (t : List ℕ) → t ∈ l → T (inserts (decoded t))
+
+-- Every number of an answer is 0.
+abbrev pub AllAccepted : List ℕ → Type 0
+AllAccepted numbers = (n : ℕ) → n ∈ numbers → n ≡ 0
