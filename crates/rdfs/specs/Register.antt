@@ -29,9 +29,12 @@ badLayout N w = not (laidOut N 1 w)
 abbrev pub inconsistent : Numbers → List ℕ → Bool
 inconsistent N w = not (consistent? (facts N w))
 
--- 1, 2, 3, then those of a call's own.
+-- 1 and 2, then those of a call's own; and 1, 2, 3, then those.
+abbrev pub layoutRefusal : Numbers → List ℕ → ℕ → ℕ
+layoutRefusal N w rest = orElse (badSize N w) 1 (orElse (badLayout N w) 2 rest)
+
 abbrev pub tableRefusal : Numbers → List ℕ → ℕ → ℕ
-tableRefusal N w rest = orElse (badSize N w) 1 (orElse (badLayout N w) 2 (orElse (inconsistent N w) 3 rest))
+tableRefusal N w rest = layoutRefusal N w (orElse (inconsistent N w) 3 rest)
 
 -- 11: the new graph has more facts than the table has words.
 abbrev pub tooMany : Numbers → List ℕ → List Fact → Bool

@@ -1,0 +1,84 @@
+-- The check's answer from the refusals of the layout and the visit of the rules. Assumes nothing.
+use Prim.Native.Nat.{ℕ, _≤_, _<_}
+use mathlib.Core.Path.{_≡_, refl, sym, ap, subst, _∙_}
+use mathlib.Core.Bool.{Bool, true, false, not}
+use mathlib.Core.Logic.{inr}
+use mathlib.Core.List.{List}
+use native.Mathlib.Omega.{arith}
+use native.Mathlib.Decide.{decLt}
+use lib.Dec.{T}
+use lib.ListN.{length}
+use Rattle.rdfs.specs.Numbers.{product}
+use Rattle.rdfs.specs.Facts.{Fact, graph}
+use Rattle.rdfs.specs.Words.{laidOut, facts}
+use Rattle.rdfs.specs.Clashes.{consistent?}
+use Rattle.rdfs.specs.Register.{orElse, badSize, badLayout, inconsistent, tableRefusal}
+use Rattle.rdfs.proofs.Decision.{check-sound, check-complete}
+use Rattle.table.specs.Calls.{lookupAnswer}
+use Rattle.table.proofs.Answers.{is-true, is-false}
+use Rattle.table.proofs.Sizes.{tests-size}
+use Rattle.table.proofs.Calls.{taken-laid}
+use Rattle.consistency.specs.declared.Visited.{Visited}
+use Rattle.consistency.specs.declared.Visited.the-variants.{AllMet, Broken}
+use Rattle.consistency.specs.declared.Rule as code
+use Rattle.consistency.specs.Order.{rulesInOrder, Answers, ruleOf}
+use Rattle.consistency.proofs.Visiting.{all-consistent, consistent-all, broken-not}
+
+-- Refusals 1 and 2 come first.
+first-two : (size layout : Bool) (rest a : ℕ) → a ≡ orElse size 1 (orElse layout 2 0) → (a ≡ 0 → ⊥) → a ≡ orElse size 1 (orElse layout 2 rest)
+first-two true layout rest a e n = e
+first-two false true rest a e n = e
+first-two false false rest a e n = absurd (n e)
+
+past-two : (size layout : Bool) (rest : ℕ) → orElse size 1 (orElse layout 2 0) ≡ 0 → orElse size 1 (orElse layout 2 rest) ≡ rest
+past-two true layout rest e = absurd (omega arith)
+past-two false true rest e = absurd (omega arith)
+past-two false false rest e = refl
+
+size-good : (size layout : Bool) → orElse size 1 (orElse layout 2 0) ≡ 0 → T size → ⊥
+size-good true layout e t = omega arith
+size-good false layout e t = t
+
+-- A table refused with 3 is laid out, and not too long.
+third : (size layout rest : Bool) → 3 ≡ orElse size 1 (orElse layout 2 (orElse rest 3 0)) → orElse size 1 (orElse layout 2 0) ≡ 0
+third true layout rest e = absurd (omega arith)
+third false true rest e = absurd (omega arith)
+third false false rest e = refl
+
+module _ (w : List ℕ) (a : ℕ) (e : a ≡ lookupAnswer w) where
+  pub refused-first : (a ≡ 0 → ⊥) → a ≡ tableRefusal product w 0
+  refused-first n = first-two (badSize product w) (badLayout product w) (orElse (inconsistent product w) 3 0) a e n
+
+  module _ (z : a ≡ 0) where
+    none : lookupAnswer w ≡ 0
+    none = sym e ∙ z
+
+    pub past-laid : T (laidOut product 1 w)
+    past-laid = taken-laid w none
+
+    pub past-fits : length w ≤ product .most
+    past-fits = elim (decLt (product .most) (length w)) [
+      | yes h ↦ absurd (size-good (badSize product w) (badLayout product w) none (tests-size product w .complete (inr h)))
+      | no n ↦ omega (arith, n)
+    ]
+
+    by-rules : (b : Bool) → inconsistent product w ≡ b → orElse b 3 0 ≡ tableRefusal product w 0
+    by-rules b q = sym (past-two (badSize product w) (badLayout product w) (orElse (inconsistent product w) 3 0) none ∙ ap (λ i. orElse i 3 0) q)
+
+    pub all-accepted : (v : Visited) → v ≡ AllMet → Answers (graph (facts product w)) rulesInOrder v → 0 ≡ tableRefusal product w 0
+    all-accepted v q m =
+        let G = graph (facts product w) in
+        let good : consistent? (facts product w) ≡ true = is-true (check-complete (facts product w) (all-consistent G (subst (Answers G rulesInOrder) q m))) in
+        by-rules false (ap not good)
+
+    pub broken-refused : (v : Visited) (r : code.Rule) → v ≡ Broken r → Answers (graph (facts product w)) rulesInOrder v → 3 ≡ tableRefusal product w 0
+    broken-refused v r q f =
+        let G = graph (facts product w) in
+        let broken = subst (Answers G rulesInOrder) q f in
+        let bad : consistent? (facts product w) ≡ false = is-false (λ t. broken-not G rulesInOrder (ruleOf r) broken (consistent-all G (check-sound (facts product w) t))) in
+        by-rules true (ap not bad)
+
+pub refused-laid : (w : List ℕ) → 3 ≡ tableRefusal product w 0 → T (laidOut product 1 w) × (length w ≤ product .most)
+refused-laid w e =
+    let none : lookupAnswer w ≡ 0 = third (badSize product w) (badLayout product w) (inconsistent product w) e in
+    (past-laid w 0 (sym none) refl, past-fits w 0 (sym none) refl)

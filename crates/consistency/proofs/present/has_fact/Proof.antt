@@ -1,0 +1,26 @@
+-- `present::has_fact` meets its contract: the fact stands exactly if its word is there. Assumes nothing.
+use mathlib.Core.Path.{subst, sym}
+use native.Mathlib.Omega.{arith}
+use borrow.Author.Needs.{needs}
+use denote.Ref.{now}
+use Rattle.consistency.specs.Runs.{Has}
+use Rattle.consistency.proofs.Decided.{decides-as}
+use Rattle.consistency.proofs.present.has_fact.Statement.{statement}
+use Rattle.consistency.proofs.present.has_fact.Tie as tie
+
+word-of-requires : tie.Need-word-of-requires
+word-of-requires c κs = search needs
+
+is-among-requires : tie.Need-is-among-requires
+is-among-requires c κs = search needs
+
+returns : tie.Need-returns
+returns c =
+    let entry = c .before .before .before .before in
+    decides-as (c .is-among .result) _ _
+    (λ h. ((entry .pre .2 .0, entry .pre .2 .1, omega arith), subst (Has (now (entry .args .t))) (c .before .word-of .ensures) h))
+    (λ h. subst (Has (now (entry .args .t))) (sym (c .before .word-of .ensures)) (h .1))
+    (c .is-among .ensures)
+
+pub has-fact-spec : {M : Type 1} → statement M
+has-fact-spec = tie.close (tie.spec word-of-requires is-among-requires returns)

@@ -1,0 +1,90 @@
+-- `present::is_only` meets its contract: the run's first word has b, and no second word follows. Assumes nothing.
+use mathlib.Core.Path.{_∙_, sym}
+use native.Mathlib.Omega.{arith}
+use borrow.Author.Needs.{needs}
+use Rattle.consistency.proofs.RunFacts.{run-stands, run-differ, stands-none, only-one}
+use Rattle.consistency.proofs.present.is_only.Statement.{statement}
+use Rattle.consistency.proofs.present.is_only.Tie as tie
+
+run-at-requires : tie.Need-run-at-requires
+run-at-requires c κs = search needs
+
+find-run-requires : tie.Need-find-run-requires
+find-run-requires c κs = search needs
+
+mul-second-of : tie.Need-mul-second-of
+mul-second-of c = search needs
+
+shared-slice-read-second-of : tie.Need-shared-slice-read-second-of
+shared-slice-read-second-of c = search needs
+
+second-of-requires : tie.Need-second-of-requires
+second-of-requires c κs = search needs
+
+returns : tie.Need-returns
+returns c =
+    let entry = c .before .before .before .before .before .before .before .before in
+    let start = rw (c .before .before .before .before .before .run-at .ensures) at (c .before .before .before .before .find-run .ensures) in
+    λ f. c .if2 .taken (c .before .second-of .ensures ∙ sym (f _ (run-stands (entry .pre .0 .words) _ _ (entry .pre .2) (entry .pre .3 .0) _ (c .before .before .before .if1 .taken) (start .here (c .before .before .before .if1 .taken)))))
+
+add-if3 : tie.Need-add-if3
+add-if3 c = search needs
+
+add-run-of : tie.Need-add-run-of
+add-run-of c = search needs
+
+mul-run-of : tie.Need-mul-run-of
+mul-run-of c = search needs
+
+shared-slice-read-run-of : tie.Need-shared-slice-read-run-of
+shared-slice-read-run-of c = search needs
+
+run-of-requires : tie.Need-run-of-requires
+run-of-requires c κs = search needs
+
+returns-2 : tie.Need-returns-2
+returns-2 c =
+    let entry = c .before .before .before .before .before .before .before .before .before .before .before .before in
+    let start = rw (c .before .before .before .before .before .before .before .before .before .run-at .ensures) at (c .before .before .before .before .before .before .before .before .find-run .ensures) in
+    let words = entry .pre .0 .words in
+    let same = sym (c .before .run-of .ensures) ∙ c .if4 .taken ∙ c .before .before .before .before .before .before .before .before .before .run-at .ensures in
+    λ f. run-differ words _ _ (entry .pre .2) (entry .pre .3 .0) _ _ (omega arith) (c .before .before .before .if3 .taken) (start .here (c .before .before .before .before .before .before .before .if1 .taken)) same
+    (sym (c .before .before .before .before .before .second-of .ensures) ∙ c .before .before .before .before .if2 .left ∙ f _ (run-stands words _ _ (entry .pre .2) (entry .pre .3 .0) _ (c .before .before .before .if3 .taken) same))
+
+returns-3 : tie.Need-returns-3
+returns-3 c =
+    let entry = c .before .before .before .before .before .before .before .before .before .before .before .before in
+    let start = rw (c .before .before .before .before .before .before .before .before .before .run-at .ensures) at (c .before .before .before .before .before .before .before .before .find-run .ensures) in
+    λ z h. sym (c .before .before .before .before .if2 .left) ∙ c .before .before .before .before .before .second-of .ensures ∙ only-one (entry .pre .0 .words) _ _ (entry .pre .2) (entry .pre .3 .0) _ start (λ l e. c .if4 .left (c .before .run-of .ensures ∙ e ∙ sym (c .before .before .before .before .before .before .before .before .before .run-at .ensures))) z h
+
+returns-4 : tie.Need-returns-4
+returns-4 c =
+    let entry = c .before .before .before .before .before .before .before .before .before in
+    let start = rw (c .before .before .before .before .before .before .run-at .ensures) at (c .before .before .before .before .before .find-run .ensures) in
+    λ z h. sym (c .before .if2 .left) ∙ c .before .before .second-of .ensures ∙ only-one (entry .pre .0 .words) _ _ (entry .pre .2) (entry .pre .3 .0) _ start (λ l e. omega (arith, c .if3 .left)) z h
+
+returns-5 : tie.Need-returns-5
+returns-5 c =
+    let entry = c .before .before .before .before .before in
+    let start = rw (c .before .before .run-at .ensures) at (c .before .find-run .ensures) in
+    λ z h. absurd (stands-none (entry .pre .0 .words) _ _ (entry .pre .2) (entry .pre .3 .0) _ start (c .if1 .left) z h)
+
+pub is-only-spec : {M : Type 1} → statement M
+is-only-spec =
+    tie.close
+    (tie.spec
+    run-at-requires
+    find-run-requires
+    mul-second-of
+    shared-slice-read-second-of
+    second-of-requires
+    returns
+    add-if3
+    add-run-of
+    mul-run-of
+    shared-slice-read-run-of
+    run-of-requires
+    returns-2
+    returns-3
+    returns-4
+    returns-5)

@@ -1,0 +1,46 @@
+-- `runs::find_run` meets its contract: the index has the place, and the word there tells whether it is the run's. Assumes nothing.
+use mathlib.Core.Path.{_∙_, sym}
+use native.Mathlib.Omega.{arith}
+use borrow.Author.Needs.{needs}
+use Rattle.consistency.proofs.Covering.{start-here, start-none}
+use Rattle.consistency.proofs.runs.find_run.Statement.{statement}
+use Rattle.consistency.proofs.runs.find_run.Tie as tie
+
+start-of-requires : tie.Need-start-of-requires
+start-of-requires c κs = search needs
+
+mul-run-of : tie.Need-mul-run-of
+mul-run-of c = search needs
+
+shared-slice-read-run-of : tie.Need-shared-slice-read-run-of
+shared-slice-read-run-of c = search needs
+
+run-of-requires : tie.Need-run-of-requires
+run-of-requires c κs = search needs
+
+returns : tie.Need-returns
+returns c =
+    let entry = c .before .before .before .before .before .before .before in
+    start-here (entry .pre .0) _ _ (c .before .before .before .before .start-of .ensures) (c .before .before .before .if1 .taken) (sym (c .before .run-of .ensures) ∙ c .if2 .taken)
+
+returns-2 : tie.Need-returns-2
+returns-2 c =
+    let entry = c .before .before .before .before .before .before .before in
+    start-none (entry .pre .0) _ _ (c .before .before .before .before .start-of .ensures) (λ l e. c .if2 .left (c .before .run-of .ensures ∙ e))
+
+returns-3 : tie.Need-returns-3
+returns-3 c =
+    let entry = c .before .before .before .before in
+    start-none (entry .pre .0) _ _ (c .before .start-of .ensures) (λ l e. omega arith)
+
+pub find-run-spec : {M : Type 1} → statement M
+find-run-spec =
+    tie.close
+    (tie.spec
+    start-of-requires
+    mul-run-of
+    shared-slice-read-run-of
+    run-of-requires
+    returns
+    returns-2
+    returns-3)

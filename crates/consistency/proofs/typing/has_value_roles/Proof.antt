@@ -1,0 +1,48 @@
+-- `typing::has_value_roles` meets its contract. Assumes nothing.
+use mathlib.Core.Logic.{inl, inr, ⊎-elim}
+use borrow.Author.Needs.{needs}
+use Rattle.table.proofs.Answers.{decides-true, decides-false}
+use Rattle.consistency.proofs.Decided.{decides-as}
+use Rattle.consistency.proofs.typing.has_value_roles.Statement.{statement}
+use Rattle.consistency.proofs.typing.has_value_roles.Tie as tie
+
+has-fact-requires : tie.Need-has-fact-requires
+has-fact-requires c κs = search needs
+
+has-fact-requires-2 : tie.Need-has-fact-requires-2
+has-fact-requires-2 c κs = search needs
+
+has-fact-requires-3 : tie.Need-has-fact-requires-3
+has-fact-requires-3 c κs = search needs
+
+returns : tie.Need-returns
+returns c = (decides-true (c .before .before .before .before .before .has-fact .result) (c .before .before .before .before .before .has-fact .ensures) (c .before .before .before .before .if1 .taken), decides-true (c .before .before .before .has-fact2 .result) (c .before .before .before .has-fact2 .ensures) (c .before .before .if2 .taken), inl (decides-true (c .before .has-fact3 .result) (c .before .has-fact3 .ensures) (c .if3 .taken)))
+
+has-fact-requires-4 : tie.Need-has-fact-requires-4
+has-fact-requires-4 c κs = search needs
+
+returns-2 : tie.Need-returns-2
+returns-2 c =
+    decides-as (c .has-fact4 .result) _ _
+    (λ h. (decides-true (c .before .before .before .before .before .before .has-fact .result) (c .before .before .before .before .before .before .has-fact .ensures) (c .before .before .before .before .before .if1 .taken), decides-true (c .before .before .before .before .has-fact2 .result) (c .before .before .before .before .has-fact2 .ensures) (c .before .before .before .if2 .taken), inr h))
+    (λ h. ⊎-elim (λ x. absurd (decides-false (c .before .before .has-fact3 .result) (c .before .before .has-fact3 .ensures) (c .before .if3 .left) x)) (λ x. x) (h .2))
+    (c .has-fact4 .ensures)
+
+returns-3 : tie.Need-returns-3
+returns-3 c = λ h. decides-false (c .before .has-fact2 .result) (c .before .has-fact2 .ensures) (c .if2 .left) (h .1)
+
+returns-4 : tie.Need-returns-4
+returns-4 c = λ h. decides-false (c .before .has-fact .result) (c .before .has-fact .ensures) (c .if1 .left) (h .0)
+
+pub has-value-roles-spec : {M : Type 1} → statement M
+has-value-roles-spec =
+    tie.close
+    (tie.spec
+    has-fact-requires
+    has-fact-requires-2
+    has-fact-requires-3
+    returns
+    has-fact-requires-4
+    returns-2
+    returns-3
+    returns-4)

@@ -1,0 +1,25 @@
+-- `visit::visit_18_to_24` meets its contract: at each return the rules before it are met, and the last one is broken or met. Assumes nothing.
+use borrow.Author.Needs.{needs}
+use Rattle.consistency.proofs.Visiting.{visiting}
+use Rattle.consistency.proofs.visit.visit_18_to_24.Statement.{statement}
+use Rattle.consistency.proofs.visit.visit_18_to_24.Tie as tie
+
+pub visit-18-to-24-spec : {M : Type 1} → statement M
+visit-18-to-24-spec =
+    tie.close
+    (tie.spec
+    (λ c κs. search needs)
+    (λ c. search visiting depth 9 fits 9000)
+    (λ c κs. search needs)
+    (λ c. search visiting depth 9 fits 9000)
+    (λ c κs. search needs)
+    (λ c. search visiting depth 9 fits 9000)
+    (λ c κs. search needs)
+    (λ c. search visiting depth 9 fits 9000)
+    (λ c κs. search needs)
+    (λ c. search visiting depth 9 fits 9000)
+    (λ c κs. search needs)
+    (λ c. search visiting depth 9 fits 9000)
+    (λ c κs. search needs)
+    (λ c. search visiting depth 9 fits 9000)
+    (λ c. search visiting depth 9 fits 9000))

@@ -1,0 +1,71 @@
+-- The words of a table before its zeros, and where each run of them starts. A run is the words of one kind and one first id.
+use Prim.Native.Nat.{ℕ, suc, _+_, _*_, _≤_, _<_}
+use mathlib.Core.Path.{_≡_}
+use mathlib.Core.List.{List}
+use lib.ListN.{length, getD}
+use Rattle.rdfs.specs.Numbers.{product}
+use Rattle.table.specs.Parts.{kindOf, firstOf, secondOf, thirdOf, Shaped, Allowed}
+
+-- How many ids there are, and how many runs: kind 0 has none, and keeps a run's number the kind's multiple.
+abbrev pub idCount : ℕ
+idCount = suc (product .top)
+
+abbrev pub runCount : ℕ
+runCount = 11 * idCount
+
+-- The number of a run, by its kind and first id; a word's run.
+abbrev pub runAt : ℕ → ℕ → ℕ
+runAt k a = k * idCount + a
+
+abbrev pub runOf : ℕ → ℕ
+runOf w = runAt (kindOf w) (firstOf w)
+
+abbrev pub at : List ℕ → ℕ → ℕ
+at t i = getD t i 0
+
+-- w is among the words.
+abbrev pub Has : List ℕ → ℕ → Type 0
+Has t w = (i : ℕ) × (i < length t) × (at t i ≡ w)
+
+-- The word of a fact.
+pub record FactWord (w : ℕ) : Type 0 where
+  pub shaped : Shaped (kindOf w) (secondOf w) (thirdOf w)
+  pub allowed : Allowed (product .top) (kindOf w) (firstOf w) (secondOf w) (thirdOf w)
+
+-- Words of facts, ascending, none twice.
+pub record FactWords (t : List ℕ) : Type 0 where
+  pub ascending : (i j : ℕ) → i < j → j < length t → at t i < at t j
+  pub facts : (i : ℕ) → i < length t → FactWord (at t i)
+
+-- The words before place i are below w.
+abbrev pub Before : List ℕ → ℕ → ℕ → Type 0
+Before t i w = (k : ℕ) → k < i → at t k < w
+
+-- r is the number of words below w.
+pub record Below (t : List ℕ) (w r : ℕ) : Type 0 where
+  pub within : r ≤ length t
+  pub before : Before t r w
+  pub after : (k : ℕ) → r ≤ k → k < length t → w ≤ at t k
+
+-- s has a place for each run: no word of the run stands before it, and one of its words stands there if it has any.
+pub record Index (t s : List ℕ) : Type 0 where
+  pub runs : length s ≡ runCount
+  pub within : (j : ℕ) → at s j ≤ length t
+  pub before : (j k : ℕ) → k < at s j → runOf (at t k) < j
+  pub start : (i : ℕ) → i < length t → (at s (runOf (at t i)) < length t) × (runOf (at t (at s (runOf (at t i)))) ≡ runOf (at t i))
+
+-- The words of a table with the index of their runs.
+pub record Indexed (t s : List ℕ) : Type 0 where
+  pub words : FactWords t
+  pub index : Index t s
+
+-- r is the place of the first word of the run j, or the number of words if the run has none.
+pub record RunStart (t : List ℕ) (j r : ℕ) : Type 0 where
+  pub within : r ≤ length t
+  pub here : r < length t → runOf (at t r) ≡ j
+  pub before : r < length t → (k : ℕ) → k < r → runOf (at t k) < j
+  pub none : length t ≤ r → (k : ℕ) → k < length t → runOf (at t k) ≡ j → ⊥
+
+-- For each word of the run j, its second id times a step, upon a base, is among the words.
+abbrev pub Covered : List ℕ → ℕ → ℕ → ℕ → Type 0
+Covered t j base step = (i : ℕ) → i < length t → runOf (at t i) ≡ j → Has t (base + secondOf (at t i) * step)

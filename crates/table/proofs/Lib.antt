@@ -1,0 +1,12 @@
+-- Answers: answers of tests, for every function that answers a bool. Parts: a word's kind and ids, for is_fact.
+-- Rising: for count_rising and is_zero_from. Filled: for count_facts and lookup. Below: for the search.
+-- Moved: for put_at and clear_from. Stored: for who puts a word in. Sizes: for is_bad_size. Calls: for layout_refusal, fresh and lookup.
+pub mod Answers
+pub mod Parts
+pub mod Rising
+pub mod Filled
+pub mod Below
+pub mod Moved
+pub mod Stored
+pub mod Sizes
+pub mod Calls

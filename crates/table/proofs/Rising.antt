@@ -1,0 +1,74 @@
+-- A walk up a table while its words are facts, each above the one before, and a walk while they are zeros. Assumes nothing.
+use Prim.Native.Nat.{ℕ, suc, _+_, _≤_, _<_}
+use mathlib.Core.Path.{_≡_, refl, sym, ap, _∙_}
+use mathlib.Core.Bool.{Bool, true, false, _&&_, cond}
+use mathlib.Core.List.{List, [], _∷_}
+use native.Mathlib.Omega.{arith}
+use native.Mathlib.Numerals.{add-one}
+use lib.Dec.{eqb, leb}
+use lib.ListN.{length, getD, drop, drop-of-length-le}
+use lib.Seq.{drop-cons}
+use borrow.Author.Tests.{le-leb, lt-leb, ne-eqb}
+use Rattle.rdfs.specs.Numbers.{product}
+use Rattle.rdfs.specs.Words.{isFact, laidOut}
+use Rattle.table.specs.Layout.{zeros, Rising}
+
+-- The words before place i are facts, ascending up to `last`: the table is laid out if the rest is, from above `last` on.
+pub record Walk (t : List ℕ) (i last : ℕ) : Type 0 where
+  pub within : i ≤ length t
+  pub rest : laidOut product 1 t ≡ laidOut product (suc last) (drop i t)
+
+pub walk-start : (t : List ℕ) → Walk t 0 0
+walk-start t = record { within = omega arith; rest = refl }
+
+-- The first word of the rest, by what it is.
+laid-on : (least w : ℕ) (l : List ℕ) → least ≤ w → 0 < w → isFact product w ≡ true → laidOut product least (w ∷ l) ≡ laidOut product (suc w) l
+laid-on least w l h p e =
+    ap (λ b. cond b (zeros l) (leb least w && (isFact product w && laidOut product (suc w) l))) (ne-eqb w 0 (omega arith))
+    ∙ (ap (λ b. b && (isFact product w && laidOut product (suc w) l)) (le-leb least w h) ∙ ap (λ b. b && laidOut product (suc w) l) e)
+
+either-zero : (b rest : Bool) (l : List ℕ) → rest ≡ false → cond b (zeros l) rest ≡ (b && zeros l)
+either-zero true rest l e = refl
+either-zero false rest l e = e
+
+laid-low : (least w : ℕ) (l : List ℕ) → w < least → laidOut product least (w ∷ l) ≡ zeros (w ∷ l)
+laid-low least w l h = either-zero (eqb w 0) _ l (ap (λ b. b && (isFact product w && laidOut product (suc w) l)) (lt-leb least w h))
+
+laid-no-fact : (least w : ℕ) (l : List ℕ) → isFact product w ≡ false → laidOut product least (w ∷ l) ≡ zeros (w ∷ l)
+laid-no-fact least w l e = either-zero (eqb w 0) _ l (and-false (leb least w) _ (ap (λ b. b && laidOut product (suc w) l) e))
+  where
+    and-false : (a b : Bool) → b ≡ false → (a && b) ≡ false
+    and-false true b e = e
+    and-false false b e = refl
+
+module _ {t : List ℕ} {i last : ℕ} (k : Walk t i last) where
+  pub walk-more : i < length t → last < getD t i 0 → isFact product (getD t i 0) ≡ true → Walk t (i + 1) (getD t i 0)
+  walk-more h l e = record {
+    within = omega arith;
+    rest = k .rest ∙ (ap (laidOut product (suc last)) (drop-cons t i 0 h) ∙ (laid-on (suc last) (getD t i 0) (drop (suc i) t) l (omega arith) e ∙ ap (λ n. laidOut product (suc (getD t i 0)) (drop n t)) (sym (add-one i))));
+  }
+
+  stop : i < length t → laidOut product (suc last) (getD t i 0 ∷ drop (suc i) t) ≡ zeros (getD t i 0 ∷ drop (suc i) t) → Rising t i
+  stop h e = record { within = k .within; rest = k .rest ∙ (ap (laidOut product (suc last)) (drop-cons t i 0 h) ∙ (e ∙ ap zeros (sym (drop-cons t i 0 h)))) }
+
+  pub walk-low : i < length t → getD t i 0 ≤ last → Rising t i
+  walk-low h l = stop h (laid-low (suc last) (getD t i 0) (drop (suc i) t) (omega arith))
+
+  pub walk-no-fact : i < length t → isFact product (getD t i 0) ≡ false → Rising t i
+  walk-no-fact h e = stop h (laid-no-fact (suc last) (getD t i 0) (drop (suc i) t) e)
+
+  pub walk-end : length t ≤ i → Rising t i
+  walk-end h =
+      let none : drop i t ≡ [] = drop-of-length-le t h in
+      record { within = k .within; rest = k .rest ∙ (ap (laidOut product (suc last)) none ∙ ap zeros (sym none)) }
+
+-- Zeros from a place on.
+module _ (t : List ℕ) (i : ℕ) where
+  pub zeros-more : i < length t → getD t i 0 ≡ 0 → zeros (drop i t) ≡ zeros (drop (i + 1) t)
+  zeros-more h e = ap zeros (drop-cons t i 0 h) ∙ (ap (λ n. eqb n 0 && zeros (drop (suc i) t)) e ∙ ap (λ n. zeros (drop n t)) (sym (add-one i)))
+
+  pub zeros-stop : i < length t → (getD t i 0 ≡ 0 → ⊥) → zeros (drop i t) ≡ false
+  zeros-stop h n = ap zeros (drop-cons t i 0 h) ∙ ap (λ b. b && zeros (drop (suc i) t)) (ne-eqb (getD t i 0) 0 n)
+
+  pub zeros-end : length t ≤ i → zeros (drop i t) ≡ true
+  zeros-end h = ap zeros (drop-of-length-le t h)

@@ -1,0 +1,6 @@
+pub mod Answers
+pub mod Parts
+pub mod Layout
+pub mod Found
+pub mod Room
+pub mod Calls

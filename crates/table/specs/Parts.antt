@@ -1,0 +1,53 @@
+-- A word's kind and ids: its digits at the product's base.
+use Prim.Native.Nat.{ℕ, _+_, _*_, _/_, _%_, _≤_, _<_}
+use mathlib.Core.Path.{_≡_, refl}
+use mathlib.Core.List.{List, [], _∷_, map}
+use Rattle.rdfs.specs.Numbers.{Numbers, product}
+use Rattle.rdfs.specs.Facts.{cl, pr, ind, lit, csub, psub, dom, rng, ci, pi, kind, made}
+use Rattle.rdfs.specs.Words.{fact}
+
+abbrev pub kindOf : ℕ → ℕ
+kindOf w = w / product .base / product .base / product .base
+
+abbrev pub firstOf : ℕ → ℕ
+firstOf w = w / product .base / product .base % product .base
+
+abbrev pub secondOf : ℕ → ℕ
+secondOf w = w / product .base % product .base
+
+abbrev pub thirdOf : ℕ → ℕ
+thirdOf w = w % product .base
+
+-- kind × base³ + a × base² + b × base + c
+abbrev pub wordOf : ℕ → ℕ → ℕ → ℕ → ℕ
+wordOf k a b c = ((k * product .base + a) * product .base + b) * product .base + c
+
+pub fact-parts : (w : ℕ) → fact (product .base) w ≡ made (kindOf w) (firstOf w) (secondOf w) (thirdOf w)
+fact-parts w = refl
+
+-- The kinds' numbers, in the order in which `Fact` has them.
+abbrev pub kindNumbers : List ℕ
+kindNumbers = map kind (cl 0 ∷ pr 0 ∷ ind 0 ∷ lit 0 ∷ csub 0 0 ∷ psub 0 0 ∷ dom 0 0 ∷ rng 0 0 ∷ ci 0 0 ∷ pi 0 0 0 ∷ [])
+
+-- Numbers that make a word: a kind that leaves room for more kinds, ids that are digits.
+pub record Digits (k a b c : ℕ) : Type 0 where
+  pub kind : k < 16
+  pub first : a < product .base
+  pub second : b < product .base
+  pub third : c < product .base
+
+-- The number is a kind, and the ids that the kind does not use are 0.
+pub record Shaped (k b c : ℕ) : Type 0 where
+  pub some : 1 ≤ k
+  pub most : k ≤ 10
+  pub second : k ≤ 4 → b ≡ 0
+  pub third : k ≤ 9 → c ≡ 0
+
+-- Ids up to the highest, id 1 only as b of Rng.
+pub record Allowed (top k a b c : ℕ) : Type 0 where
+  pub first : a ≤ top
+  pub second : b ≤ top
+  pub third : c ≤ top
+  pub not-first : a ≡ 1 → ⊥
+  pub not-third : c ≡ 1 → ⊥
+  pub not-second : b ≡ 1 → k ≡ 8

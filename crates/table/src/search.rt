@@ -1,0 +1,58 @@
+// The search among the first n words of a table, where these ascend.
+ghost use mathlib.Core.Path.{_≡_};
+ghost use Prim.Native.Nat.{_≤_};
+ghost use lib.ListN.{length, take};
+ghost use Rattle.rdfs.specs.Lists.{Ascending, member};
+ghost use Rattle.table.specs.Found.{below, found};
+use crate::words::Word;
+
+pub enum Found {
+    // The word stands at this place.
+    At(usize),
+    // It does not stand there; this many words are below it, and it would go to this place.
+    Missing(usize),
+}
+
+// How many of the first n words are below w, by halving.
+pub fn count_below(t: &[Word], n: usize, w: Word) -> usize
+    requires { ⌜ (n ≤ length (now t)) × Ascending (take n (now t)) ⌝ }
+    ensures { λ r. ⌜ r ≡ below (take n (now (t .entry))) w ⌝ }
+{
+    let mut lo = 0;
+    let mut hi = n;
+    while lo < hi {
+        let mid = lo + (hi - lo) / 2;
+        if t[mid] < w {
+            lo = mid + 1;
+        } else {
+            hi = mid;
+        }
+    }
+    lo
+}
+
+// Where w stands among the first n words, or where it would go.
+pub fn find(t: &[Word], n: usize, w: Word) -> Found
+    requires { ⌜ (n ≤ length (now t)) × Ascending (take n (now t)) ⌝ }
+    ensures { λ r. ⌜ r ≡ found (take n (now (t .entry))) w ⌝ }
+{
+    let i = count_below(t, n, w);
+    if i < n {
+        if t[i] == w {
+            return Found::At(i);
+        }
+    }
+    Found::Missing(i)
+}
+
+// Whether w is one of the first n words.
+pub fn has_word(t: &[Word], n: usize, w: Word) -> bool
+    requires { ⌜ (n ≤ length (now t)) × Ascending (take n (now t)) ⌝ }
+    ensures { λ r. ⌜ r ≡ member (take n (now (t .entry))) w ⌝ }
+{
+    let f = find(t, n, w);
+    match f {
+        Found::At(_) => true,
+        Found::Missing(_) => false,
+    }
+}
