@@ -60,7 +60,7 @@ module _ (N : Numbers) (s : Sound N) (w bytes : List ℕ) (t : Table N w) (d : T
   abbrev gone : Fact
   gone = named (decoded bytes)
 
-  new-is : new N w bytes ≡ deletion K gone
+  pub new-is : new N w bytes ≡ deletion K gone
   new-is = pick (inserts (decoded bytes)) (not-both (decoded bytes) d)
     where
       pick : (b : Bool) → (T b → ⊥) → elim b as (λ _. List Fact) [ true ↦ insertion (N .top) K (asked (decoded bytes)) | false ↦ deletion K gone ] ≡ deletion K gone

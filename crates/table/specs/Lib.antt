@@ -3,4 +3,5 @@ pub mod Parts
 pub mod Layout
 pub mod Found
 pub mod Room
+pub mod Counted
 pub mod Calls

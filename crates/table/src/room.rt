@@ -1,4 +1,4 @@
-// Room for a word among others, and words taken away at the end.
+// Room for a word among others, words taken away at the end, and a table copied.
 ghost use mathlib.Core.Path.{_≡_};
 ghost use Prim.Native.Nat.{_≤_, _<_};
 ghost use lib.ListN.{length};
@@ -26,6 +26,18 @@ pub fn clear_from(t: &mut [Word], k: usize)
     let mut i = k;
     while i < t.len() {
         t[i] = 0;
+        i += 1;
+    }
+}
+
+// Copies every word.
+pub fn copy_words(from: &[Word], to: &mut [Word])
+    requires { ⌜ length (now from) ≡ length (now to) ⌝ }
+    ensures { λ _. ⌜ now (to .exit) ≡ now (from .entry) ⌝ }
+{
+    let mut i = 0;
+    while i < from.len() {
+        to[i] = from[i];
         i += 1;
     }
 }

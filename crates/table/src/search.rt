@@ -3,8 +3,12 @@ ghost use mathlib.Core.Path.{_≡_};
 ghost use Prim.Native.Nat.{_≤_};
 ghost use lib.ListN.{length, take};
 ghost use Rattle.rdfs.specs.Lists.{Ascending, member};
+ghost use Rattle.rdfs.specs.Facts.{made, has};
+ghost use Rattle.table.specs.Parts.{Shaped};
 ghost use Rattle.table.specs.Found.{below, found};
+ghost use Rattle.table.specs.Counted.{Counted, Id, factsOf};
 use crate::words::Word;
+use crate::words::word_of;
 
 pub enum Found {
     // The word stands at this place.
@@ -55,4 +59,13 @@ pub fn has_word(t: &[Word], n: usize, w: Word) -> bool
         Found::At(_) => true,
         Found::Missing(_) => false,
     }
+}
+
+// Whether a fact is in a table with n facts.
+pub fn has_fact(t: &[Word], n: usize, k: Word, a: Word, b: Word, c: Word) -> bool
+    requires { ⌜ Counted (now t) n × Shaped k b c × Id a × Id b × Id c ⌝ }
+    ensures { λ r. ⌜ r ≡ has (factsOf (now (t .entry))) (made k a b c) ⌝ }
+{
+    let w = word_of(k, a, b, c);
+    has_word(t, n, w)
 }

@@ -1,0 +1,119 @@
+// The marks by which the facts that go with one are told.
+ghost use Prim.Native.Nat.{_≤_};
+ghost use lib.Dec.{T};
+ghost use Rattle.rdfs.specs.Numbers.{product};
+ghost use Rattle.rdfs.specs.Facts.{csub};
+ghost use Rattle.rdfs.specs.Words.{fact, isFact, facts};
+ghost use Rattle.rdfs.specs.Deletion.{leads, under, between, fallsWithClass};
+ghost use Rattle.table.specs.Counted.{Counted};
+ghost use Rattle.deletion.specs.Marks.{marked, Whole, Adds};
+ghost use Rattle.deletion.specs.Gone.{marksOf, Blank, AllBlank, Led, MarksFor};
+use crate::marks::mark_between;
+use crate::marks::mark_leading;
+use crate::marks::mark_linked;
+use crate::marks::mark_under;
+use table::CLASS;
+use table::DOMAIN;
+use table::INDIVIDUAL;
+use table::LITERAL;
+use table::MEMBER;
+use table::PROPERTY;
+use table::RANGE;
+use table::SUBCLASS;
+use table::SUBPROPERTY;
+use table::VALUE;
+use table::Word;
+use table::first_of;
+use table::kind_of;
+use table::second_of;
+use table::third_of;
+
+// Marks class a and the properties with a as domain or range.
+fn mark_with_class<'a>(t: &'a [Word], n: usize, a: Word, ids: &mut [bool])
+    requires { ⌜ Counted (now t) n × (a ≤ product .top) × Whole (now ids) ⌝ }
+    ensures { λ _. ⌜ Adds (now (ids .entry)) (now (ids .exit)) (fallsWithClass (facts product (now (t .entry))) a) ⌝ }
+{
+    ids[a as usize] = true;
+    mark_linked(t, n, DOMAIN, a, ids);
+    mark_linked(t, n, RANGE, a, ids);
+}
+
+// Marks the properties whose domain, and those whose range, is one of the ids.
+fn mark_properties<'a>(
+    t: &'a [Word],
+    n: usize,
+    ids: &'a [bool],
+    domains: &mut [bool],
+    ranges: &mut [bool],
+)
+    requires { ⌜ Counted (now t) n × Whole (now ids) × Whole (now domains) × Whole (now ranges) ⌝ }
+    ensures { λ _. ⌜ Adds (now (domains .entry)) (now (domains .exit)) (λ p. leads (facts product (now (t .entry))) 7 p (marked (now (ids .entry)))) × Adds (now (ranges .entry)) (now (ranges .exit)) (λ p. leads (facts product (now (t .entry))) 8 p (marked (now (ids .entry)))) ⌝ }
+{
+    mark_leading(t, n, DOMAIN, ids, domains);
+    mark_leading(t, n, RANGE, ids, ranges);
+}
+
+// The marks for CSub(a,b): the classes between, the properties with one of them as domain or range, and those with b.
+fn mark_for_class_link<'a>(
+    t: &'a [Word],
+    n: usize,
+    a: Word,
+    b: Word,
+    ids: &mut [bool],
+    domains: &mut [bool],
+    ranges: &mut [bool],
+    b_domains: &mut [bool],
+    b_ranges: &mut [bool],
+)
+    requires { ⌜ Counted (now t) n × (a ≤ product .top) × (b ≤ product .top) × AllBlank (marksOf (now ids) (now domains) (now ranges) (now «b_domains») (now «b_ranges»)) ⌝ }
+    ensures { λ _. ⌜ MarksFor (facts product (now (t .entry))) (csub a b) (marksOf (now (ids .exit)) (now (domains .exit)) (now (ranges .exit)) (now («b_domains» .exit)) (now («b_ranges» .exit))) ⌝ }
+{
+    mark_between(t, n, SUBCLASS, a, b, ids);
+    mark_properties(t, n, ids, domains, ranges);
+    mark_linked(t, n, DOMAIN, b, b_domains);
+    mark_linked(t, n, RANGE, b, b_ranges);
+}
+
+// The marks for CI(a,b): b and the classes below, and the properties with one of them as domain or range.
+fn mark_for_member<'a>(
+    t: &'a [Word],
+    n: usize,
+    b: Word,
+    ids: &mut [bool],
+    domains: &mut [bool],
+    ranges: &mut [bool],
+)
+    requires { ⌜ Counted (now t) n × (b ≤ product .top) × Blank (now ids) × Blank (now domains) × Blank (now ranges) ⌝ }
+    ensures { λ _. ⌜ Led (facts product (now (t .entry))) (under (facts product (now (t .entry))) 5 b) (now (ids .exit)) (now (domains .exit)) (now (ranges .exit)) ⌝ }
+{
+    mark_under(t, n, SUBCLASS, b, ids);
+    mark_properties(t, n, ids, domains, ranges);
+}
+
+// The marks for the fact of the word d.
+pub fn mark_gone<'a>(
+    t: &'a [Word],
+    n: usize,
+    d: Word,
+    ids: &mut [bool],
+    domains: &mut [bool],
+    ranges: &mut [bool],
+    b_domains: &mut [bool],
+    b_ranges: &mut [bool],
+)
+    requires { ⌜ Counted (now t) n × T (isFact product d) × AllBlank (marksOf (now ids) (now domains) (now ranges) (now «b_domains») (now «b_ranges»)) ⌝ }
+    ensures { λ _. ⌜ MarksFor (facts product (now (t .entry))) (fact (product .base) d) (marksOf (now (ids .exit)) (now (domains .exit)) (now (ranges .exit)) (now («b_domains» .exit)) (now («b_ranges» .exit))) ⌝ }
+{
+    let k = kind_of(d);
+    let a = first_of(d);
+    let b = second_of(d);
+    match k {
+        CLASS => mark_with_class(t, n, a, ids),
+        PROPERTY | INDIVIDUAL | LITERAL => ids[a as usize] = true,
+        SUBCLASS => mark_for_class_link(t, n, a, b, ids, domains, ranges, b_domains, b_ranges),
+        SUBPROPERTY => mark_between(t, n, SUBPROPERTY, a, b, ids),
+        MEMBER => mark_for_member(t, n, b, ids, domains, ranges),
+        VALUE => mark_under(t, n, SUBPROPERTY, third_of(d), ids),
+        _ => {}
+    }
+}

@@ -1,0 +1,8 @@
+pub mod Looked
+pub mod ClashParts
+pub mod Alone
+pub mod Joined
+pub mod FactWords
+pub mod Growth
+pub mod Answers
+pub mod Kept

@@ -1,0 +1,58 @@
+-- From a table that the check passes, and from an inner step's answer, to what the calls promise. Assumes nothing.
+use Prim.Native.Nat.{ℕ}
+use mathlib.Core.Path.{_≡_, refl, sym, ap, subst, _∙_}
+use mathlib.Core.Bool.{not}
+use mathlib.Core.Logic.{inl, inr, ⊎-elim}
+use mathlib.Core.List.{List}
+use native.Mathlib.Omega.{arith}
+use lib.Dec.{ltb, leb, not-T, nltb→le, nleb→lt, eqb→eq}
+use lib.ListN.{length}
+use Rattle.rdfs.specs.Numbers.{product}
+use Rattle.rdfs.specs.Words.{laidOut, filled, facts}
+use Rattle.rdfs.specs.Clashes.{consistent?}
+use Rattle.rdfs.specs.Register.{Answer, badSize, badLayout, inconsistent, tableRefusal, step, Table}
+use Rattle.rdfs.proofs.Tests.{either-or}
+use Rattle.rdfs.proofs.TicketTests.{stands, known-operation}
+use Rattle.rdfs.proofs.Decision.{check-sound}
+use Rattle.rdfs.proofs.Refusals.{passed-link}
+use Rattle.ticket.specs.Form.{sense, bytesOf, recordOf, ticketOf, formRefusal, Ready}
+use Rattle.ticket.specs.Answered.{Answered, Valued, Stepped, refusedWith}
+use Rattle.ticket.specs.declared.Applied.{Applied}
+use Rattle.ticket.specs.declared.form.Ticket.{Ticket}
+use Rattle.ticket.specs.declared.step.Step.{Step}
+use Rattle.ticket.proofs.Formed.{form-passes}
+
+-- Words past refusals 1, 2 and 3 are a consistent table.
+pub checked-table : (w : List ℕ) → tableRefusal product w 0 ≡ 0 → Table product w
+checked-table w e =
+    let p1 = passed-link (badSize product w) 1 _ 0 (omega arith) e in
+    let p2 = passed-link (badLayout product w) 2 _ 0 (omega arith) (p1 .1) in
+    let p3 = passed-link (inconsistent product w) 3 _ 0 (omega arith) (p2 .1) in
+    record {
+      some = nleb→lt (length w) 0 (not-T (leb (length w) 0) (λ h. p1 .0 (either-or (leb (length w) 0) (ltb (product .most) (length w)) (inl h))));
+      fits = nltb→le (product .most) (length w) (not-T (ltb (product .most) (length w)) (λ h. p1 .0 (either-or (leb (length w) 0) (ltb (product .most) (length w)) (inr h))));
+      laid = stands (laidOut product 1 w) (p2 .0);
+      consistent = check-sound (facts product w) (stands (consistent? (facts product w)) (p3 .0));
+    }
+
+-- A ticket by its fields, each made wide.
+module _ {o k a b c : ℕ} (t : Ticket) (eo : t .operation ≡ o) (ek : k ≡ t .kind) (ea : a ≡ t .a) (eb : b ≡ t .b) (ec : c ≡ t .c) where
+  pub wide-bytes : recordOf o k a b c ≡ bytesOf t
+  wide-bytes = λ i. recordOf (sym eo i) (ek i) (ea i) (eb i) (ec i)
+
+  pub wide-ready : {w : List ℕ} {n r : ℕ} → Table product w → n ≡ length (filled w) → r ≡ formRefusal (sense t) → r ≡ 0 → Ready w n o k a b c
+  wide-ready h s e z = record { table = h; size = s; formed = ap formRefusal same ∙ (sym e ∙ z) }
+    where
+      same : ticketOf o k a b c ≡ sense t
+      same = λ i. ticketOf (sym eo i) (ek i) (ea i) (eb i) (ec i)
+
+-- Past refusal 5, what does not insert deletes.
+pub deletes-else : (t : Ticket) {r : ℕ} → r ≡ formRefusal (sense t) → r ≡ 0 → (t .operation ≡ 1 → ⊥) → t .operation ≡ 2
+deletes-else t e z n = ⊎-elim (λ i. absurd (n (eqb→eq (t .operation) 1 i))) (eqb→eq (t .operation) 2) (known-operation (sense t) (form-passes (sense t) (sym e ∙ z) .operation))
+
+-- The answer of a refused call, and of one that took an inner step.
+pub answered-refused : {w : List ℕ} {s : Answer} (r : Applied) (k : ℕ) → (r .answer ≡ k) × (r .added ≡ 0) × (r .removed ≡ 0) → s ≡ refusedWith k w → Answered r w s
+answered-refused {w} r k h e = subst (Answered r w) (sym e) (record { number = h .0; added = h .1; removed = h .2; words = refl })
+
+pub answered-stepped : {r : Applied} {n : ℕ} {s : Step} {x : List ℕ} {a : Answer} → Valued r n s → Stepped n s x a → Answered r x a
+answered-stepped v s = record { number = v .number ∙ s .number; added = v .added ∙ s .added; removed = v .removed ∙ s .removed; words = s .words }

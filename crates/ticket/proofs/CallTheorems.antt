@@ -1,0 +1,91 @@
+-- Demands 1 and 2 about the single call itself: r is what `apply` answers and v the words it leaves, and all that is known of them is its
+-- contract, `Answered`. Assumes nothing.
+use Prim.Native.Nat.{ℕ, zero, suc}
+use mathlib.Core.Path.{_≡_, sym, ap, subst, _∙_}
+use mathlib.Core.Bool.{Bool, true, false}
+use mathlib.Core.Logic.{_⊎_, inl, inr, ⊎-elim}
+use mathlib.Core.List.{List, [], _∷_}
+use lib.Dec.{T}
+use Rattle.rdfs.specs.Numbers.{Numbers, product}
+use Rattle.rdfs.specs.Lists.{_∈_, _⊆_}
+use Rattle.rdfs.specs.Facts.{Fact, graph}
+use Rattle.rdfs.specs.Consistency.{Smallest, Largest, keeps}
+use Rattle.rdfs.specs.Words.{facts}
+use Rattle.rdfs.specs.Tickets as defs
+use Rattle.rdfs.specs.Register.{orElse, badSize, badLayout, inconsistent, tooMany, step, Answer, Table}
+use Rattle.rdfs.proofs.Refusals.{Formed, new, refusal, Passed, passed}
+use Rattle.rdfs.proofs.Steps.{step-number, refused-keeps}
+use Rattle.rdfs.proofs.TicketTests.{known-operation}
+use Rattle.rdfs.proofs.Possible.{Possible}
+use Rattle.rdfs.proofs.AfterEach.{After, after}
+use Rattle.rdfs.proofs.Within.{unchanged}
+use Rattle.rdfs.proofs.Theorems.{product-sound, insertion-is-smallest, ten-is-exact, deletion-is-largest, repeat-changes-nothing}
+use Rattle.ticket.specs.Answered.{Answered}
+use Rattle.ticket.specs.declared.Applied.{Applied}
+
+-- The conditions of refusals 1 to 11 in order, on words w and bytes b.
+abbrev pub conditions : List ℕ → List ℕ → List Bool
+conditions w b =
+    let t : defs.Ticket = defs.decoded b in
+    let K : List Fact = facts product w in
+    let n : List Fact = new product w b in
+    badSize product w ∷ badLayout product w ∷ inconsistent product w ∷ defs.badLength b ∷ defs.badOperation t ∷ defs.badKind t ∷ defs.badIds (product .top) t ∷ defs.guarded t
+    ∷ defs.unknownProperty K t ∷ defs.clashing n t ∷ tooMany product w n ∷ []
+
+-- m is the number of the first condition that holds, counted from n; 0 if none holds.
+pub data First : List Bool → ℕ → ℕ → Type 0 where
+  none : {n : ℕ} → First [] n 0
+  here : {t : Bool} {l : List Bool} {n : ℕ} → T t → First (t ∷ l) n n
+  later : {t : Bool} {l : List Bool} {n m : ℕ} → (T t → ⊥) → First l (suc n) m → First (t ∷ l) n m
+
+-- One link of the chain of refusals.
+link : (t : Bool) (l : List Bool) (n rest : ℕ) → First l (suc n) rest → First (t ∷ l) n (orElse t n rest)
+link true l n rest h = here tt
+link false l n rest h = later (λ f. f) h
+
+-- Demand 1: whatever the bytes and the table, the answer is 0 or the first refusal whose condition holds, and a refusal moves nothing.
+pub record Demand1 (w b v : List ℕ) (r : Applied) : Type 0 where
+  pub first : First (conditions w b) 1 (r .answer)
+  pub moves-nothing : (r .answer ≡ 0 → ⊥) → (v ≡ w) × (r .added ≡ 0) × (r .removed ≡ 0)
+
+pub demand-1 : (w b v : List ℕ) (r : Applied) → Answered r v (step product w b) → Demand1 w b v r
+demand-1 w b v r a = record {
+  first = subst (First (conditions w b) 1) (sym (a .number ∙ step-number product w b)) (link _ _ 1 _ (link _ _ 2 _ (link _ _ 3 _ (link _ _ 4 _ (link _ _ 5 _ (link _ _ 6 _ (link _ _ 7 _ (link _ _ 8 _ (link _ _ 9 _ (link _ _ 10 _ (link _ [] 11 0 none)))))))))));
+  moves-nothing = λ n. let k = refused-keeps product w b (λ e. n (a .number ∙ e)) in (a .words ∙ k .table, a .added ∙ k .added, a .removed ∙ k .removed);
+}
+
+-- On a consistent table.
+module _ (w b v : List ℕ) (r : Applied) (t : Table product w) (a : Answered r v (step product w b)) where
+  zero-number : r .answer ≡ 0 → step product w b .number ≡ 0
+  zero-number e = sym (a .number) ∙ e
+
+  -- Demand 2: an accepted insertion leaves the smallest consistent graph that holds the table and the asked facts.
+  pub call-smallest : T (defs.inserts (defs.decoded b)) → r .answer ≡ 0 → Smallest (graph (facts product w)) (graph (defs.asked (defs.decoded b))) (graph (facts product v))
+  call-smallest i e = subst (λ x. Smallest (graph (facts product w)) (graph (defs.asked (defs.decoded b))) (graph (facts product x))) (sym (a .words))
+      (insertion-is-smallest product product-sound w b t i (zero-number e))
+
+  -- Past refusal 9, 10 exactly if there is none.
+  pub call-ten : T (defs.inserts (defs.decoded b)) → Formed product b → (T (defs.unknownProperty (facts product w) (defs.decoded b)) → ⊥)
+      → (r .answer ≡ 10 → Possible (graph (facts product w)) (graph (defs.asked (defs.decoded b))) → ⊥)
+      × ((r .answer ≡ 10 → ⊥) → Possible (graph (facts product w)) (graph (defs.asked (defs.decoded b))))
+  call-ten i f u = let x = ten-is-exact product product-sound w b t i f u in ((λ e. x .0 (sym (a .number) ∙ e)), (λ n. x .1 (λ e. n (a .number ∙ e))))
+
+  -- A deletion past refusal 8 is accepted and leaves the largest consistent part of its family without the fact.
+  pub call-largest : T (defs.deletes (defs.decoded b)) → Formed product b
+      → (r .answer ≡ 0) × Largest (graph (facts product w)) (defs.named (defs.decoded b)) (keeps (defs.named (defs.decoded b))) (graph (facts product v))
+  call-largest d f =
+      let x = deletion-is-largest product product-sound w b t d f in
+      (a .number ∙ x .0, subst (λ y. Largest (graph (facts product w)) (defs.named (defs.decoded b)) (keeps (defs.named (defs.decoded b))) (graph (facts product y))) (sym (a .words)) (x .1))
+
+  -- A repeat of an accepted ticket is accepted, and adds and removes nothing.
+  pub call-repeat : r .answer ≡ 0 → (u : List ℕ) (q : Applied) → Answered q u (step product v b) → (q .answer ≡ 0) × (q .added ≡ 0) × (q .removed ≡ 0) × (u ≡ v)
+  call-repeat e u q c =
+      let z : step product w b .number ≡ 0 = zero-number e in
+      let f : Formed product b = passed product w b (sym (step-number product w b) ∙ z) .formed in
+      let x : After product w b = after product product-sound w b t in
+      let v-table : Table product v = subst (Table product) (sym (a .words)) (x .rules) in
+      let same : step product v b ≡ unchanged v = repeat-changes-nothing product product-sound v b v-table f (⊎-elim
+          (λ i. inl (i, subst (λ y. defs.asked (defs.decoded b) ⊆ facts product y) (sym (a .words)) (x .there-are z i)))
+          (λ d. inr (d, λ h. x .is-gone z d (subst (λ y. defs.named (defs.decoded b) ∈ facts product y) (a .words) h)))
+          (known-operation (defs.decoded b) (f .operation))) in
+      (c .number ∙ ap (λ s. s .number) same, c .added ∙ ap (λ s. s .added) same, c .removed ∙ ap (λ s. s .removed) same, c .words ∙ ap (λ s. s .table) same)

@@ -1,0 +1,98 @@
+-- The register's step where a ticket is refused: the first refusal's number, no counts, the words as they were. Assumes nothing.
+use Prim.Native.Nat.{ℕ, zero, suc, _<_}
+use mathlib.Core.Path.{_≡_, refl, sym, ap, subst, _∙_}
+use mathlib.Core.Bool.{Bool, true, false}
+use mathlib.Core.List.{List}
+use native.Mathlib.Omega.{arith}
+use lib.Dec.{T, eqb, T-not, lt→ltb}
+use lib.ListN.{length}
+use borrow.Author.Tests.{eq-eqb}
+use Rattle.rdfs.specs.Numbers.{product, recordLength}
+use Rattle.rdfs.specs.Facts.{Fact}
+use Rattle.rdfs.specs.Words.{facts, words}
+use Rattle.rdfs.specs.Clashes.{clashes}
+use Rattle.rdfs.specs.Insertion.{insertion}
+use Rattle.rdfs.specs.Tickets.{decoded, inserts, asked, badLength, unknownProperty, clashing}
+use Rattle.rdfs.specs.Lookups.{lookupClash}
+use Rattle.rdfs.specs.Register.{orElse, badSize, badLayout, inconsistent, tableRefusal, tooMany, answer, step, Table}
+use Rattle.rdfs.proofs.Tests.{and-both, both-and}
+use Rattle.rdfs.proofs.TicketTests.{known-kind, uses-known}
+use Rattle.rdfs.proofs.Refusals.{Sane, Formed, new, refusal, to-9, pass-link, stop-link, refuse-10}
+use Rattle.rdfs.proofs.Steps.{table-sane, table-allowed, step-number, wrong-length}
+use Rattle.rdfs.proofs.InsertionSteps.{new-is}
+use Rattle.rdfs.proofs.Theorems.{product-sound, lookup-clash-is-clash}
+use Rattle.ticket.specs.Form.{formRefusal}
+use Rattle.ticket.specs.Answered.{refusedWith}
+use Rattle.ticket.proofs.Formed.{form-passes, form-refused}
+
+answer-refused : (n : ℕ) (w ws : List ℕ) → (n ≡ 0 → ⊥) → answer n w ws ≡ refusedWith n w
+answer-refused zero w ws d = absurd (d refl)
+answer-refused (suc n) w ws d = refl
+
+pub refused-as : (w bytes : List ℕ) (n : ℕ) → refusal product w bytes ≡ n → (n ≡ 0 → ⊥) → step product w bytes ≡ refusedWith n w
+unfolding step
+refused-as w bytes n e d = ap (λ m. answer m w (words product (new product w bytes))) e ∙ answer-refused n w (words product (new product w bytes)) d
+
+-- Refusals 1, 2, 3.
+pub table-refused : (w bytes : List ℕ) (n : ℕ) → tableRefusal product w 0 ≡ n → (n ≡ 0 → ⊥) → step product w bytes ≡ refusedWith n w
+table-refused w bytes n e d = refused-as w bytes n (go (badSize product w) (badLayout product w) (inconsistent product w) _ e) d
+  where
+    go : (p q r : Bool) (rest : ℕ) → orElse p 1 (orElse q 2 (orElse r 3 0)) ≡ n → orElse p 1 (orElse q 2 (orElse r 3 rest)) ≡ n
+    go true q r rest e = e
+    go false true r rest e = e
+    go false false true rest e = e
+    go false false false rest e = absurd (d (sym e))
+
+-- A record past refusals 5 to 8.
+pub formed-record : (bytes : List ℕ) → length bytes ≡ recordLength → formRefusal (decoded bytes) ≡ 0 → Formed product bytes
+formed-record bytes l e =
+    let p = form-passes (decoded bytes) e in
+    let whole : T (badLength bytes) → ⊥ = λ h. T-not (eqb (length bytes) recordLength) h (subst T (sym (eq-eqb (length bytes) recordLength l)) tt) in
+    record { long = whole; operation = p .operation; kind = p .kind; ids = p .ids; free = p .free }
+
+module _ (w bytes : List ℕ) (t : Table product w) where
+  sane : Sane product w
+  sane = table-sane product w t
+
+  -- Refusal 4.
+  pub length-refused : (length bytes ≡ recordLength → ⊥) → step product w bytes ≡ refusedWith 4 w
+  length-refused h = refused-as w bytes 4 (sym (step-number product w bytes) ∙ wrong-length product w bytes t h) (omega arith)
+
+  -- Refusals 5 to 8.
+  pub form-refused-as : (n : ℕ) → length bytes ≡ recordLength → formRefusal (decoded bytes) ≡ n → (n ≡ 0 → ⊥) → step product w bytes ≡ refusedWith n w
+  form-refused-as n l e d =
+      let whole : T (badLength bytes) → ⊥ = λ h. T-not (eqb (length bytes) recordLength) h (subst T (sym (eq-eqb (length bytes) recordLength l)) tt) in
+      refused-as w bytes n (pass-link (badSize product w) 1 _ (sane .size) ∙ (pass-link (badLayout product w) 2 _ (sane .layout) ∙ (pass-link (inconsistent product w) 3 _ (sane .rules)
+      ∙ (pass-link (badLength bytes) 4 _ whole ∙ form-refused (decoded bytes) n _ e d)))) d
+
+  module _ (f : Formed product bytes) where
+    -- Refusal 9.
+    pub unknown-refused : T (unknownProperty (facts product w) (decoded bytes)) → step product w bytes ≡ refusedWith 9 w
+    unknown-refused u = refused-as w bytes 9 (to-9 product w bytes sane f ∙ stop-link (unknownProperty (facts product w) (decoded bytes)) 9 _ u) (omega arith)
+
+    module _ (i : T (inserts (decoded bytes))) (k : T (unknownProperty (facts product w) (decoded bytes)) → ⊥) where
+      abbrev grown : List Fact
+      grown = insertion (product .top) (facts product w) (asked (decoded bytes))
+
+      -- The clash by lookups is that of the graph which the ticket would leave.
+      pub looked-clash : lookupClash (facts product w) (decoded bytes) ≡ clashes (new product w bytes)
+      looked-clash = lookup-clash-is-clash (product .top) (facts product w) (decoded bytes) (table-allowed product product-sound w t) i record {
+        consistent = t .consistent;
+        kinds = known-kind (decoded bytes) (f .kind);
+        ids = f .ids;
+        uses = uses-known (facts product w) (decoded bytes) i k;
+      } ∙ ap clashes (sym (new-is product product-sound w bytes t i))
+
+      -- Refusal 10.
+      pub clash-refused : T (lookupClash (facts product w) (decoded bytes)) → step product w bytes ≡ refusedWith 10 w
+      clash-refused c = refused-as w bytes 10 (refuse-10 product w bytes sane f k (both-and (inserts (decoded bytes)) (clashes (new product w bytes)) i (subst T looked-clash c))) (omega arith)
+
+      pub clash-free : (T (lookupClash (facts product w) (decoded bytes)) → ⊥) → T (clashing (new product w bytes) (decoded bytes)) → ⊥
+      clash-free n h = n (subst T (sym looked-clash) (and-both (inserts (decoded bytes)) (clashes (new product w bytes)) h .1))
+
+      -- Refusal 11.
+      pub full-refused : (T (lookupClash (facts product w) (decoded bytes)) → ⊥) → length w < length (words product grown) → step product w bytes ≡ refusedWith 11 w
+      full-refused n h =
+          let more : length w < length (words product (new product w bytes)) = subst (λ L. length w < length (words product L)) (sym (new-is product product-sound w bytes t i)) h in
+          refused-as w bytes 11 (to-9 product w bytes sane f ∙ (pass-link (unknownProperty (facts product w) (decoded bytes)) 9 _ k
+          ∙ (pass-link (clashing (new product w bytes) (decoded bytes)) 10 _ (clash-free n) ∙ stop-link (tooMany product w (new product w bytes)) 11 0 (lt→ltb (length w) _ more)))) (omega arith)

@@ -1,0 +1,47 @@
+-- `apply`: the check of the table, then the ticket. Assumes nothing.
+use mathlib.Core.Path.{sym, _∙_}
+use denote.Ref.{now}
+use Rattle.ticket.proofs.RefusedSteps.{table-refused}
+use Rattle.ticket.proofs.Answers.{checked-table, answered-refused}
+use borrow.Author.Needs.{needs}
+use Rattle.ticket.proofs.apply.Statement.{statement}
+use Rattle.ticket.proofs.apply.Tie as tie
+
+check-requires : tie.Need-check-requires
+check-requires c κs = search needs
+
+refused-requires : tie.Need-refused-requires
+refused-requires c κs = search needs
+
+same-length : tie.Need-same-length
+same-length c = search needs
+
+returns : tie.Need-returns
+returns c =
+    let k = c .before .before .check in
+    let s = c .before .before .before .before .before .before in
+    answered-refused (c .refused .result) (k .result) (c .refused .ensures) (table-refused (now (s .args .table)) (now (s .args .ticket)) (k .result) (sym (k .ensures)) (c .before .if1 .taken))
+
+apply-checked-requires : tie.Need-apply-checked-requires
+apply-checked-requires c κs =
+    let d = c .before in
+    let s = d .before .before .before .before .before in
+    checked-table (now (s .args .table)) (sym (d .before .check .ensures) ∙ d .if1 .left)
+
+same-length-2 : tie.Need-same-length-2
+same-length-2 c = search needs
+
+returns-2 : tie.Need-returns-2
+returns-2 c = search needs
+
+pub apply-spec : {M : Type 1} → statement M
+apply-spec =
+    tie.close
+    (tie.spec
+    check-requires
+    refused-requires
+    same-length
+    returns
+    apply-checked-requires
+    same-length-2
+    returns-2)

@@ -1,0 +1,73 @@
+-- `step::run_insertion`: each way does as the register. Assumes nothing.
+use mathlib.Core.Path.{sym, _∙_}
+use Rattle.ticket.proofs.Formed.{formed-ids}
+use Rattle.ticket.proofs.Ways.{ready-asked, way-unknown, way-there, way-clash}
+use borrow.Author.Needs.{needs}
+use Rattle.ticket.proofs.step.run_insertion.Statement.{statement}
+use Rattle.ticket.proofs.step.run_insertion.Tie as tie
+
+is-unknown-property-requires : tie.Need-is-unknown-property-requires
+is-unknown-property-requires c κs = search needs
+
+same-length : tie.Need-same-length
+same-length c = search needs
+
+returns : tie.Need-returns
+returns c =
+    let s = c .before .before .before .before in
+    way-unknown (s .pre) (sym (c .if1 .taken) ∙ c .before .is-unknown-property .ensures)
+
+has-asked-requires : tie.Need-has-asked-requires
+has-asked-requires c κs = search needs
+
+same-length-2 : tie.Need-same-length-2
+same-length-2 c = search needs
+
+returns-2 : tie.Need-returns-2
+returns-2 c =
+    let s = c .before .before .before .before .before .before .before in
+    way-there (s .pre) (sym (c .if2 .taken) ∙ c .before .has-asked .ensures)
+
+clashes-requires : tie.Need-clashes-requires
+clashes-requires c κs =
+    let s = c .before .before .before .before .before .before .before .before in
+    let ids = formed-ids 1 (s .args .k) (s .args .a) (s .args .b) (s .args .c) (s .pre .formed) in
+    (ready-asked (s .pre) .table, ids .0, ids .1, ids .2)
+
+same-length-3 : tie.Need-same-length-3
+same-length-3 c = search needs
+
+returns-3 : tie.Need-returns-3
+returns-3 c =
+    let u = c .before .before .before .before .before .before in
+    let s = u .before .before .before .before in
+    way-clash (s .pre) (sym (u .if1 .left) ∙ u .before .is-unknown-property .ensures) (sym (c .if3 .taken) ∙ c .before .clashes .ensures)
+
+insert-by-copy-requires : tie.Need-insert-by-copy-requires
+insert-by-copy-requires c κs =
+    let u = c .before .before .before .before .before .before .before in
+    let d = c .before in
+    record { ready = u .before .before .before .before .pre; known = sym (u .before .is-unknown-property .ensures) ∙ u .if1 .left; free = sym (d .before .clashes .ensures) ∙ d .if3 .left }
+
+same-length-4 : tie.Need-same-length-4
+same-length-4 c = search needs
+
+returns-4 : tie.Need-returns-4
+returns-4 c = search needs
+
+pub run-insertion-spec : {M : Type 1} → statement M
+run-insertion-spec =
+    tie.close
+    (tie.spec
+    is-unknown-property-requires
+    same-length
+    returns
+    has-asked-requires
+    same-length-2
+    returns-2
+    clashes-requires
+    same-length-3
+    returns-3
+    insert-by-copy-requires
+    same-length-4
+    returns-4)
