@@ -1,12 +1,11 @@
 -- Runs of words, and one pass over a run and over the words that it is looked for in. Assumes nothing.
-use Prim.Native.Nat.{ℕ, _+_, _*_, _≤_, _<_}
+use Prim.Native.Nat.{ℕ, _+_, _≤_, _<_}
 use mathlib.Core.Path.{_≡_, sym, ap, subst, _∙_}
-use mathlib.Core.Logic.{_⊎_, inl, inr, ⊎-elim}
+use mathlib.Core.Logic.{⊎-elim}
 use mathlib.Core.List.{List}
-use native.Mathlib.Nat.{eq-or-lt-of-le, mul-le-mul-left, mul-le-mul-right}
+use native.Mathlib.Nat.{eq-or-lt-of-le}
 use native.Mathlib.Omega.{arith}
 use lib.ListN.{length}
-use Rattle.rdfs.specs.Numbers.{product}
 use Rattle.table.specs.Parts.{firstOf, secondOf}
 use Rattle.consistency.specs.Runs.{runOf, at, Has, FactWords, Before, Below, Indexed, RunStart, Covered}
 use Rattle.consistency.specs.Graphs.{Id}
@@ -60,19 +59,15 @@ pub run-lacks : {t : List ℕ} (w r : ℕ) → RunStart t (runOf w) r → length
 run-lacks w r S h (i, l, e) = S .none h i l (ap (λ (z : ℕ). runOf z) e)
 
 -- The words of run j before place i have their second ids, upon the base, among the words; none from the next one on stands before `place`.
-pub record Covering (t : List ℕ) (j r base step i place : ℕ) : Type 0 where
+pub record Covering (t : List ℕ) (j r base i place : ℕ) : Type 0 where
   pub start : RunStart t j r
   pub started : r ≤ i
   pub within : place ≤ length t
-  pub done : (m : ℕ) → m < i → m < length t → runOf (at t m) ≡ j → Has t (base + secondOf (at t m) * step)
-  pub next : i < length t → runOf (at t i) ≡ j → Before t place (base + secondOf (at t i) * step)
+  pub done : (m : ℕ) → m < i → m < length t → runOf (at t m) ≡ j → Has t (base + secondOf (at t m))
+  pub next : i < length t → runOf (at t i) ≡ j → Before t place (base + secondOf (at t i))
 
--- What a second id adds to a base.
-pub step-fits : (b step : ℕ) → b < product .base → step ≤ product .base → b * step ≤ product .base * product .base
-step-fits b step h k = omega (arith, mul-le-mul-left b k)
-
-module _ {t : List ℕ} (F : FactWords t) (j r base step : ℕ) where
-  pub covering-none : (place : ℕ) → RunStart t j r → place ≤ length t → Before t place base → Covering t j r base step r place
+module _ {t : List ℕ} (F : FactWords t) (j r base : ℕ) where
+  pub covering-none : (place : ℕ) → RunStart t j r → place ≤ length t → Before t place base → Covering t j r base r place
   covering-none place S l b = record {
     start = S;
     started = omega arith;
@@ -81,21 +76,21 @@ module _ {t : List ℕ} (F : FactWords t) (j r base step : ℕ) where
     next = λ h e k n. omega (arith, b k n);
   }
 
-  module _ (i place : ℕ) (C : Covering t j r base step i place) where
-    pub covering-more : (w after : ℕ) → i < length t → runOf (at t i) ≡ j → w ≡ base + secondOf (at t i) * step → Below t w after → Has t w → Covering t j r base step (i + 1) after
+  module _ (i place : ℕ) (C : Covering t j r base i place) where
+    pub covering-more : (w after : ℕ) → i < length t → runOf (at t i) ≡ j → w ≡ base + secondOf (at t i) → Below t w after → Has t w → Covering t j r base (i + 1) after
     covering-more w after l e we L H = record {
       start = C .start;
       started = omega (arith, C .started);
       within = L .within;
-      done = λ m a b k. ⊎-elim (λ q. subst (λ (z : ℕ). Has t (base + secondOf (at t z) * step)) (sym q) (subst (Has t) we H)) (λ q. C .done m q b k) (eq-or-lt-of-le (omega arith));
-      next = λ a k z b. omega (arith, L .before z b, mul-le-mul-right step (ascends a k));
+      done = λ m a b k. ⊎-elim (λ q. subst (λ (z : ℕ). Has t (base + secondOf (at t z))) (sym q) (subst (Has t) we H)) (λ q. C .done m q b k) (eq-or-lt-of-le (omega arith));
+      next = λ a k z b. omega (arith, L .before z b, ascends a k);
     }
       where
         ascends : i + 1 < length t → runOf (at t (i + 1)) ≡ j → secondOf (at t i) ≤ secondOf (at t (i + 1))
         ascends a k = run-seconds (at t i) (at t (i + 1)) (first-id F i l) (first-id F (i + 1) a) (F .ascending i (i + 1) (omega arith) a) (e ∙ sym k)
 
-    pub covering-past : (runOf (at t i) ≡ j → ⊥) → Covered t j base step
+    pub covering-past : (runOf (at t i) ≡ j → ⊥) → Covered t j base
     covering-past n m l e = ⊎-elim (λ q. C .done m q l e) (λ q. absurd (run-past F j r (C .start) i (C .started) n m q l e)) (split m i)
 
-    pub covering-end : length t ≤ i → Covered t j base step
+    pub covering-end : length t ≤ i → Covered t j base
     covering-end n m l e = C .done m (omega arith) l e

@@ -1,5 +1,5 @@
 -- The index of runs while it is filled from the last word down. Assumes nothing.
-use Prim.Native.Nat.{ℕ, zero, suc, _+_, _-_, _≤_, _<_}
+use Prim.Native.Nat.{ℕ, zero, suc, _-_, _≤_, _<_}
 use mathlib.Core.Path.{_≡_, refl, sym, ap, subst, _∙_}
 use mathlib.Core.Logic.{_⊎_, inl, inr, ⊎-elim}
 use mathlib.Core.List.{List}
@@ -22,10 +22,10 @@ pub record Entered (t s : List ℕ) (i : ℕ) : Type 0 where
   pub start : (m : ℕ) → i ≤ m → m < length t → runOf (at t (at s (runOf (at t m)))) ≡ runOf (at t m)
 
 -- What a store leaves at a place.
-abbrev Stored : List ℕ → ℕ → ℕ → ℕ → Type 0
+abbrev pub Stored : List ℕ → ℕ → ℕ → ℕ → Type 0
 Stored s k v j = ((j ≡ k) × (at (set s k v) j ≡ v)) ⊎ ((j ≡ k → ⊥) × (at (set s k v) j ≡ at s j))
 
-stored : (s : List ℕ) (k v j : ℕ) → k < length s → Stored s k v j
+pub stored : (s : List ℕ) (k v j : ℕ) → k < length s → Stored s k v j
 stored s k v j h = by-case (compare j k)
   where
     by-case : (j < k) ⊎ ((k ≡ j) ⊎ (k < j)) → Stored s k v j

@@ -1,5 +1,5 @@
 -- The words of a table that is laid out are words of facts, and their graph is that of the table's facts. Assumes nothing.
-use Prim.Native.Nat.{ℕ, _≤_, _<_}
+use Prim.Native.Nat.{ℕ, _≤_}
 use mathlib.Core.Path.{_≡_, refl, sym, subst}
 use mathlib.Core.List.{List}
 use native.Mathlib.Omega.{arith}
@@ -8,7 +8,7 @@ use lib.ListN.{length, take}
 use lib.Seq.{length-take-le}
 use Rattle.rdfs.specs.Numbers.{product}
 use Rattle.rdfs.specs.Lists.{_∈_}
-use Rattle.rdfs.specs.Facts.{Fact, graph, _⊑_}
+use Rattle.rdfs.specs.Facts.{graph, _⊑_}
 use Rattle.rdfs.specs.Words.{fact, isFact, laidOut, filled, facts}
 use Rattle.rdfs.proofs.Lists.{map-in}
 use Rattle.rdfs.proofs.Digits.{fact-word}

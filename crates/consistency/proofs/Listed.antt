@@ -1,13 +1,12 @@
 -- Words of facts by their places and as a list: members, and the ascent of both. Assumes nothing.
-use Prim.Native.Nat.{ℕ, zero, suc, _≤_, _<_}
-use mathlib.Core.Path.{_≡_, refl, sym, subst, _∙_}
+use Prim.Native.Nat.{ℕ, zero, suc, _<_}
+use mathlib.Core.Path.{_≡_, sym, subst}
 use mathlib.Core.Logic.{⊎-elim}
 use mathlib.Core.List.{List, [], _∷_}
 use native.Mathlib.Omega.{arith}
 use lib.ListN.{length, take}
 use lib.Seq.{take-length}
 use Rattle.rdfs.specs.Lists.{_∈_, here, there, Ascending}
-use Rattle.rdfs.proofs.Lists.{none-in, in-cons}
 use Rattle.table.specs.Found.{below}
 use Rattle.table.proofs.Filled.{at-in}
 use Rattle.table.proofs.Below.{first-within, first-up, first-down}

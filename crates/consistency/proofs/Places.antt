@@ -1,5 +1,5 @@
 -- Places of ascending words, and the runs that words stand in. Assumes nothing.
-use Prim.Native.Nat.{ℕ, zero, suc, _+_, _*_, _≤_, _<_}
+use Prim.Native.Nat.{ℕ, _+_, _≤_, _<_}
 use mathlib.Core.Path.{_≡_}
 use mathlib.Core.Logic.{_⊎_, inl, inr}
 use mathlib.Core.Bool.{Bool, true, false}
@@ -9,8 +9,8 @@ use native.Mathlib.Decide.{decLt}
 use native.Mathlib.Omega.{arith}
 use lib.ListN.{length}
 use Rattle.table.specs.Answers.{Decides}
-use Rattle.table.specs.Parts.{kindOf, firstOf, secondOf, thirdOf}
-use Rattle.consistency.specs.Runs.{runOf, runCount, at, Has, FactWord, FactWords, Before, Below}
+use Rattle.table.specs.Parts.{kindOf, firstOf, secondOf}
+use Rattle.consistency.specs.Runs.{runOf, runCount, at, Has, FactWords, Before, Below}
 use Rattle.consistency.specs.Graphs.{Id}
 
 -- Below, or not; below, at, or above.

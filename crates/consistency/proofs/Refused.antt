@@ -1,5 +1,5 @@
 -- The check's answer from the refusals of the layout and the visit of the rules. Assumes nothing.
-use Prim.Native.Nat.{ℕ, _≤_, _<_}
+use Prim.Native.Nat.{ℕ, _≤_}
 use mathlib.Core.Path.{_≡_, refl, sym, ap, subst, _∙_}
 use mathlib.Core.Bool.{Bool, true, false, not}
 use mathlib.Core.Logic.{inr}
@@ -9,7 +9,7 @@ use native.Mathlib.Decide.{decLt}
 use lib.Dec.{T}
 use lib.ListN.{length}
 use Rattle.rdfs.specs.Numbers.{product}
-use Rattle.rdfs.specs.Facts.{Fact, graph}
+use Rattle.rdfs.specs.Facts.{graph}
 use Rattle.rdfs.specs.Words.{laidOut, facts}
 use Rattle.rdfs.specs.Clashes.{consistent?}
 use Rattle.rdfs.specs.Register.{orElse, badSize, badLayout, inconsistent, tableRefusal}

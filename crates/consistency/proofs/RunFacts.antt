@@ -1,15 +1,14 @@
 -- The facts of one kind and one first id, by the words of their run. Assumes nothing.
-use Prim.Native.Nat.{ℕ, _+_, _*_, _≤_, _<_}
-use mathlib.Core.Path.{_≡_, sym, subst, _∙_}
-use mathlib.Core.Logic.{_⊎_, inl, inr, ⊎-elim}
+use Prim.Native.Nat.{ℕ, _+_, _≤_, _<_}
+use mathlib.Core.Path.{_≡_, sym, subst}
+use mathlib.Core.Logic.{_⊎_, inl, inr}
 use mathlib.Core.List.{List}
 use native.Mathlib.Omega.{arith}
 use lib.ListN.{length}
-use Rattle.rdfs.specs.Numbers.{product}
 use Rattle.table.specs.Parts.{kindOf, firstOf, secondOf, thirdOf, wordOf}
-use Rattle.consistency.specs.Runs.{runAt, runOf, idCount, at, Has, FactWords, Before, Index, RunStart, Covered}
-use Rattle.consistency.specs.Graphs.{Id, Stands, Carried, Single, Only}
-use Rattle.consistency.proofs.Places.{compare, first-id, run-below}
+use Rattle.consistency.specs.Runs.{runAt, runOf, idCount, at, Has, FactWords, RunStart, Covered, groupOf}
+use Rattle.consistency.specs.Graphs.{Id, Stands, Inherited, Single, Only}
+use Rattle.consistency.proofs.Places.{compare, first-id}
 use Rattle.consistency.proofs.Covering.{run-from, run-past}
 
 -- A word of two ids, by its run and its second id.
@@ -76,30 +75,19 @@ module _ {t : List ℕ} (F : FactWords t) (k a : ℕ) (K : k < 10) (A : Id a) wh
         by-case m h e f (inr (inl p)) = rw p f
         by-case m h e f (inr (inr p)) = absurd (run-past F _ r S (r + 1) (omega arith) (n (omega arith)) m (omega arith) h e)
 
-pub run-first : {t s : List ℕ} → Index t s → (k a : ℕ) → Id a → Before t (at s (runAt k a)) (wordOf k a 0 0)
-run-first {t} {s} X k a A q h = run-below (at t q) (wordOf k a 0 0) (omega arith) (subst (λ (z : ℕ). runOf (at t q) < z) (sym (run-by (wordOf k a 0 0) k a 0 A (omega arith) (omega arith))) (X .before (runAt k a) q h))
-
--- A run that is covered, by its facts.
-module _ (t : List ℕ) (k l a b : ℕ) (A : Id a) (B : Id b) where
-  pub covered-carried : Covered t (runAt l b) (wordOf k a 0 0) (product .base) → Carried t k l a b
-  covered-carried C z ((p, q, o), (i, h, e)) =
-      ((A, q, omega arith), subst (Has t) (same (at t i) e) (C i h (run-by (at t i) l b z B q e)))
-    where
-      same : (w : ℕ) → w ≡ wordOf l b z 0 → wordOf k a 0 0 + secondOf w * product .base ≡ wordOf k a z 0
-      same w f = omega (arith, second-by w l b z B q f)
-
-  pub carried-covered : FactWords t → l < 10 → Carried t k l a b → Covered t (runAt l b) (wordOf k a 0 0) (product .base)
-  carried-covered F L U i h e = subst (Has t) (omega arith) (U (secondOf (at t i)) (run-stands F l b L B i h e) .1)
+-- A run of links that is covered, by the values with the same subject and object.
+pub group-word : (w : ℕ) → kindOf w ≡ 10 → groupOf w ≡ wordOf 10 (firstOf w) (secondOf w) 0
+group-word w e = omega arith
 
 module _ (t : List ℕ) (a b c : ℕ) (A : Id a) (B : Id b) (C : Id c) where
-  pub covered-inherited : Covered t (runAt 6 c) (wordOf 10 a b 0) 1 → (w : ℕ) → Stands t 6 c w 0 → Stands t 10 a b w
+  pub covered-inherited : Covered t (runAt 6 c) (wordOf 10 a b 0) → Inherited t a b c
   covered-inherited W z ((p, q, o), (i, h, e)) =
       ((A, B, q), subst (Has t) (same (at t i) e) (W i h (run-by (at t i) 6 c z C q e)))
     where
-      same : (w : ℕ) → w ≡ wordOf 6 c z 0 → wordOf 10 a b 0 + secondOf w * 1 ≡ wordOf 10 a b z
+      same : (w : ℕ) → w ≡ wordOf 6 c z 0 → wordOf 10 a b 0 + secondOf w ≡ wordOf 10 a b z
       same w f = omega (arith, second-by w 6 c z C q f)
 
-  pub inherited-covered : FactWords t → ((w : ℕ) → Stands t 6 c w 0 → Stands t 10 a b w) → Covered t (runAt 6 c) (wordOf 10 a b 0) 1
+  pub inherited-covered : FactWords t → Inherited t a b c → Covered t (runAt 6 c) (wordOf 10 a b 0)
   inherited-covered F U i h e = subst (Has t) (omega arith) (U (secondOf (at t i)) (run-stands F 6 c (omega arith) C i h e) .1)
 
 -- The one second id of a's facts of a kind.

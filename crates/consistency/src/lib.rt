@@ -3,10 +3,10 @@
 // The public call is `check`. It has no `requires`: it says, for all inputs, what it answers; it writes nothing. `first_broken` serves the
 // crates above, and names the rule on a table that is laid out. The crate assumes nothing.
 //
-// The index of runs takes 5,632 bytes of stack, two for each of 11 times 256 runs, and the rest of a call some hundred. With ids up to 4,095
-// it would take 90,112.
-
+// The index of runs takes 5,632 bytes of stack, two for each of 11 times 256 runs, the marks of a run 512, and the rest of a call some hundred.
+// With ids up to 4,095 the index would take 90,112 and the marks 8,192.
 mod each;
+mod marks;
 mod merge;
 mod present;
 mod rules;

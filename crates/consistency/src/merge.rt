@@ -1,16 +1,17 @@
 // Words looked for among the words of a table: in their run, and those of one run in one pass over another.
 use crate::runs::find_run;
 use crate::runs::run_of;
+use table::BASE;
 use table::Word;
 use table::count_below;
 use table::second_of;
 ghost use mathlib.Core.Path.{_≡_};
-ghost use Prim.Native.Nat.{ℕ, _+_, _*_, _≤_, _<_};
+ghost use Prim.Native.Nat.{_+_, _-_, _≤_, _<_};
 ghost use lib.ListN.{length};
 ghost use Rattle.rdfs.specs.Numbers.{product};
 ghost use Rattle.table.specs.Parts.{kindOf, firstOf, wordOf};
 ghost use Rattle.table.specs.Answers.{Decides};
-ghost use Rattle.consistency.specs.Runs.{at, Has, FactWords, Before, Below, Indexed, Covered, runCount};
+ghost use Rattle.consistency.specs.Runs.{at, Has, FactWords, Before, Below, Indexed, Covered, runCount, groupOf, GroupStart};
 ghost use Rattle.consistency.specs.Graphs.{Id};
 
 // How many words are below w.
@@ -61,18 +62,11 @@ pub fn is_among<'a>(t: &'a [Word], s: &'a [u16], w: Word) -> bool
     false
 }
 
-// Whether each second id of the run j, times a step and upon a base, is among the words. Both ascend, so one pass over each
-// is enough. No word from the base on stands before the place `from`.
-pub fn is_covered<'a>(
-    t: &'a [Word],
-    s: &'a [u16],
-    j: usize,
-    from: usize,
-    base: Word,
-    step: Word,
-) -> bool
-    requires { ⌜ Indexed (now t) (now s) × (j < runCount) × (from ≤ length (now t)) × Before (now t) from base × ((step ≤ product .base) × (base ≤ wordOf 10 (product .top) (product .top) 0)) ⌝ }
-    ensures { λ r. ⌜ Decides r (Covered (now (t .entry)) j base step) ⌝ }
+// Whether each second id of the run j, upon a base, is among the words. Both ascend, so one pass over each is enough. No word from the base
+// on stands before the place `from`.
+pub fn is_covered<'a>(t: &'a [Word], s: &'a [u16], j: usize, from: usize, base: Word) -> bool
+    requires { ⌜ Indexed (now t) (now s) × (j < runCount) × (from ≤ length (now t)) × Before (now t) from base × (base ≤ wordOf 10 (product .top) (product .top) 0) ⌝ }
+    ensures { λ r. ⌜ Decides r (Covered (now (t .entry)) j base) ⌝ }
 {
     let mut i = find_run(t, s, j);
     let mut place = from;
@@ -81,7 +75,7 @@ pub fn is_covered<'a>(
         if run_of(v) != j {
             return true;
         }
-        let w = base + second_of(v) * step;
+        let w = base + second_of(v);
         place = place_from(t, place, w);
         if !is_at(t, place, w) {
             return false;
@@ -89,4 +83,15 @@ pub fn is_covered<'a>(
         i += 1;
     }
     true
+}
+
+// The place of the first word that has the kind and the first two ids of the word at i, if g is that of the word before.
+pub fn group_start(t: &[Word], g: usize, i: usize) -> usize
+    requires { ⌜ FactWords (now t) × (i < length (now t)) × (g ≤ i) × (g < i → GroupStart (now t) (i - 1) g) × (g ≡ i → Before (now t) i (groupOf (at (now t) i))) ⌝ }
+    ensures { λ r. ⌜ GroupStart (now (t .entry)) i r ⌝ }
+{
+    if t[g] / BASE == t[i] / BASE {
+        return g;
+    }
+    i
 }

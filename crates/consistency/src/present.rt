@@ -1,12 +1,9 @@
 // Tests by ids that several rules share: whether a fact stands, and the facts of one kind and one first id.
 use crate::merge::is_among;
-use crate::merge::is_covered;
 use crate::runs::IDS;
 use crate::runs::find_run;
 use crate::runs::run_at;
 use crate::runs::run_of;
-use crate::runs::start_of;
-use table::BASE;
 use table::Word;
 use table::second_of;
 use table::word_of;
@@ -14,7 +11,7 @@ ghost use mathlib.Core.Path.{_≡_};
 ghost use Prim.Native.Nat.{ℕ, _<_};
 ghost use Rattle.table.specs.Answers.{Decides};
 ghost use Rattle.consistency.specs.Runs.{Indexed};
-ghost use Rattle.consistency.specs.Graphs.{Id, Stands, Carried, Single, Only};
+ghost use Rattle.consistency.specs.Graphs.{Id, Stands, Single, Only};
 
 // Whether the fact of kind k with the ids a and b is there; b is 0 for a kind with one id.
 pub fn has_fact<'a>(t: &'a [Word], s: &'a [u16], k: Word, a: Word, b: Word) -> bool
@@ -83,13 +80,4 @@ pub fn is_only<'a>(t: &'a [Word], s: &'a [u16], k: Word, a: Word, b: Word) -> bo
         }
     }
     true
-}
-
-// Whether a has by kind k each second id that b has by kind l.
-pub fn is_carried<'a>(t: &'a [Word], s: &'a [u16], k: Word, l: Word, a: Word, b: Word) -> bool
-    requires { ⌜ Indexed (now t) (now s) × (k < 11) × (4 < l) × (l < 10) × (Id a × Id b) ⌝ }
-    ensures { λ r. ⌜ Decides r (Carried (now (t .entry)) k l a b) ⌝ }
-{
-    let from = start_of(s, run_at(k, a));
-    is_covered(t, s, run_at(l, b), from, word_of(k, a, 0, 0), BASE)
 }

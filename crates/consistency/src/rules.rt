@@ -1,7 +1,9 @@
 // One function for each rule, exact for it on words with an index: what the rules before it have shown is required where it is used.
 use crate::Rule;
 use crate::each::all_meet;
+use crate::marks::all_carried;
 use crate::present::has_fact;
+use crate::values::all_inherited;
 use table::CLASS;
 use table::DOMAIN;
 use table::INDIVIDUAL;
@@ -121,7 +123,7 @@ pub fn meets_18<'a>(t: &'a [Word], s: &'a [u16]) -> bool
     requires { ⌜ Indexed (now t) (now s) ⌝ }
     ensures { λ r. ⌜ Decides r (Meets (graphOf (now (t .entry))) r18) ⌝ }
 {
-    all_meet(t, s, Rule::R18, SUBCLASS)
+    all_carried(t, s, SUBCLASS, SUBCLASS)
 }
 
 pub fn meets_19<'a>(t: &'a [Word], s: &'a [u16]) -> bool
@@ -135,7 +137,7 @@ pub fn meets_20<'a>(t: &'a [Word], s: &'a [u16]) -> bool
     requires { ⌜ Indexed (now t) (now s) ⌝ }
     ensures { λ r. ⌜ Decides r (Meets (graphOf (now (t .entry))) r20) ⌝ }
 {
-    all_meet(t, s, Rule::R20, SUBPROPERTY)
+    all_carried(t, s, SUBPROPERTY, SUBPROPERTY)
 }
 
 pub fn meets_21<'a>(t: &'a [Word], s: &'a [u16]) -> bool
@@ -177,14 +179,14 @@ pub fn meets_26<'a>(t: &'a [Word], s: &'a [u16]) -> bool
     requires { ⌜ Indexed (now t) (now s) ⌝ }
     ensures { λ r. ⌜ Decides r (Meets (graphOf (now (t .entry))) r26) ⌝ }
 {
-    all_meet(t, s, Rule::R26, MEMBER)
+    all_carried(t, s, MEMBER, SUBCLASS)
 }
 
 pub fn meets_27<'a>(t: &'a [Word], s: &'a [u16]) -> bool
     requires { ⌜ Indexed (now t) (now s) ⌝ }
     ensures { λ r. ⌜ Decides r (Meets (graphOf (now (t .entry))) r27) ⌝ }
 {
-    all_meet(t, s, Rule::R27, VALUE)
+    all_inherited(t, s)
 }
 
 pub fn meets_h1<'a>(t: &'a [Word], s: &'a [u16]) -> bool

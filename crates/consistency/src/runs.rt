@@ -33,8 +33,8 @@ fn wide(x: u16) -> usize
     x as usize
 }
 
-// The place that the index has for a run.
-pub fn start_of(s: &[u16], j: usize) -> usize
+// The number at a place of an index or of marks.
+pub fn number_at(s: &[u16], j: usize) -> usize
     requires { ⌜ j < length (now s) ⌝ }
     ensures { λ r. ⌜ r ≡ at (now (s .entry)) j ⌝ }
 {
@@ -59,7 +59,7 @@ pub fn find_run<'a>(t: &'a [Word], s: &'a [u16], j: usize) -> usize
     requires { ⌜ Indexed (now t) (now s) × (j < runCount) ⌝ }
     ensures { λ r. ⌜ RunStart (now (t .entry)) j r ⌝ }
 {
-    let i = start_of(s, j);
+    let i = number_at(s, j);
     if i < t.len() {
         if run_of(t[i]) == j {
             return i;

@@ -1,8 +1,8 @@
-// Tests by ids of the rules on the values of individuals: 24, 25, 27 and H3.
+// The rules on the values of individuals: 24, 25 and H3 by ids, and 27.
+use crate::merge::group_start;
 use crate::merge::is_covered;
 use crate::merge::place_of;
 use crate::present::has_fact;
-use crate::present::has_some;
 use crate::present::only_second;
 use crate::runs::IDS;
 use crate::runs::run_at;
@@ -14,11 +14,16 @@ use table::RANGE;
 use table::SUBPROPERTY;
 use table::VALUE;
 use table::Word;
+use table::third_of;
 use table::word_of;
-ghost use Rattle.rdfs.specs.Rules.{r24, r25, r27, h3};
+ghost use mathlib.Core.Path.{_≡_};
+ghost use Prim.Native.Nat.{_≤_};
+ghost use lib.ListN.{length};
+ghost use Rattle.rdfs.specs.Rules.{Meets, r24, r25, r27, h3};
 ghost use Rattle.table.specs.Answers.{Decides};
-ghost use Rattle.consistency.specs.Runs.{Indexed};
-ghost use Rattle.consistency.specs.Graphs.{Id, graphOf};
+ghost use Rattle.table.specs.Parts.{kindOf, firstOf, secondOf, thirdOf};
+ghost use Rattle.consistency.specs.Runs.{FactWord, Before, Indexed, groupOf};
+ghost use Rattle.consistency.specs.Graphs.{Id, graphOf, Inherited};
 ghost use Rattle.consistency.specs.Asked.{Asks};
 ghost use Rattle.consistency.specs.Earlier.{Earlier};
 
@@ -60,14 +65,29 @@ pub fn is_object_literal<'a>(t: &'a [Word], s: &'a [u16], b: Word, c: Word) -> b
     true
 }
 
-// Rule 27, for PI(a,b,c): a has the value b for each property over c.
-pub fn is_value_inherited<'a>(t: &'a [Word], s: &'a [u16], a: Word, b: Word, c: Word) -> bool
-    requires { ⌜ Indexed (now t) (now s) × (Id a × Id b × Id c) ⌝ }
-    ensures { λ r. ⌜ Decides r (Asks (graphOf (now (t .entry))) r27 a b c) ⌝ }
+// Rule 27, for the word of PI(a,b,c): a has the value b for each property over c. No word of a and b stands before the place g.
+fn is_inherited<'a>(t: &'a [Word], s: &'a [u16], g: usize, w: Word) -> bool
+    requires { ⌜ Indexed (now t) (now s) × FactWord w × (kindOf w ≡ 10) × (g ≤ length (now t)) × Before (now t) g (groupOf w) ⌝ }
+    ensures { λ r. ⌜ Decides r (Inherited (now (t .entry)) (firstOf w) (secondOf w) (thirdOf w)) ⌝ }
 {
-    if has_some(t, s, SUBPROPERTY, c) {
-        let base = word_of(VALUE, a, b, 0);
-        return is_covered(t, s, run_at(SUBPROPERTY, c), place_of(t, base), base, 1);
+    let c = third_of(w);
+    is_covered(t, s, run_at(SUBPROPERTY, c), g, w - c)
+}
+
+// Rule 27, for all: the values of one subject and object stand together, and their place is carried along.
+pub fn all_inherited<'a>(t: &'a [Word], s: &'a [u16]) -> bool
+    requires { ⌜ Indexed (now t) (now s) ⌝ }
+    ensures { λ r. ⌜ Decides r (Meets (graphOf (now (t .entry))) r27) ⌝ }
+{
+    let mut i = place_of(t, word_of(VALUE, 0, 0, 0));
+    let end = place_of(t, word_of(VALUE + 1, 0, 0, 0));
+    let mut g = i;
+    while i < end {
+        g = group_start(t, g, i);
+        if !is_inherited(t, s, g, t[i]) {
+            return false;
+        }
+        i += 1;
     }
     true
 }

@@ -85,7 +85,7 @@ module _ (w b v : List ℕ) (r : Applied) (t : Table product w) (a : Answered r 
       let x : After product w b = after product product-sound w b t in
       let v-table : Table product v = subst (Table product) (sym (a .words)) (x .rules) in
       let same : step product v b ≡ unchanged v = repeat-changes-nothing product product-sound v b v-table f (⊎-elim
-          (λ i. inl (i, subst (λ y. defs.asked (defs.decoded b) ⊆ facts product y) (sym (a .words)) (x .there-are z i)))
-          (λ d. inr (d, λ h. x .is-gone z d (subst (λ y. defs.named (defs.decoded b) ∈ facts product y) (a .words) h)))
-          (known-operation (defs.decoded b) (f .operation))) in
+      (λ i. inl (i, subst (λ y. defs.asked (defs.decoded b) ⊆ facts product y) (sym (a .words)) (x .there-are z i)))
+      (λ d. inr (d, λ h. x .is-gone z d (subst (λ y. defs.named (defs.decoded b) ∈ facts product y) (a .words) h)))
+      (known-operation (defs.decoded b) (f .operation))) in
       (c .number ∙ ap (λ s. s .number) same, c .added ∙ ap (λ s. s .added) same, c .removed ∙ ap (λ s. s .removed) same, c .words ∙ ap (λ s. s .table) same)

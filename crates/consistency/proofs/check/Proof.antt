@@ -21,10 +21,16 @@ enum-told-2 : tie.Need-enum-told-2
 enum-told-2 c = search needs
 
 returns-2 : tie.Need-returns-2
-returns-2 c = all-accepted (now (c .before .before .before .before .before .before .args .t)) _ (c .before .before .before .before .layout-refusal .ensures) (c .before .before .before .if1 .left) _ (c .enum-told .given .1) (c .before .before .first-broken .ensures)
+returns-2 c =
+    let at-layout-refusal = c .before .before .before .before in
+    let entry = at-layout-refusal .before .before in
+    all-accepted (now (entry .args .t)) _ (at-layout-refusal .layout-refusal .ensures) (c .before .before .before .if1 .left) _ (c .enum-told .given .1) (c .before .before .first-broken .ensures)
 
 returns-3 : tie.Need-returns-3
-returns-3 c = broken-refused (now (c .before .before .before .before .before .before .args .t)) _ (c .before .before .before .before .layout-refusal .ensures) (c .before .before .before .if1 .left) _ _ (c .enum-told2 .given .1) (c .before .before .first-broken .ensures)
+returns-3 c =
+    let at-layout-refusal = c .before .before .before .before in
+    let entry = at-layout-refusal .before .before in
+    broken-refused (now (entry .args .t)) _ (at-layout-refusal .layout-refusal .ensures) (c .before .before .before .if1 .left) _ _ (c .enum-told2 .given .1) (c .before .before .first-broken .ensures)
 
 pub check-spec : {M : Type 1} → statement M
 check-spec =

@@ -40,14 +40,18 @@ slice-aggregate-visit c = search needs
 
 visit-requires : tie.Need-visit-requires
 visit-requires c κs =
-    let entry = c .before .before .before .before .before .before .before in
-    record { words = counted-words (now (entry .args .t)) (entry .pre .0) _ (c .before .before .before .before .before .count-facts .ensures) (entry .pre .1) .0; index = c .before .before .fill-index .ensures }
+    let at-before = c .before .before .before .before in
+    let at-count-facts = at-before .before in
+    let entry = at-count-facts .before .before in
+    record { words = counted-words (now (entry .args .t)) (entry .pre .0) _ (at-count-facts .count-facts .ensures) (entry .pre .1) .0; index = c .before .before .fill-index .ensures }
 
 returns : tie.Need-returns
 returns c =
-    let entry = c .before .before .before .before .before .before .before .before in
+    let at-before = c .before .before .before .before .before in
+    let at-count-facts = at-before .before in
+    let entry = at-count-facts .before .before in
     let t = now (entry .args .t) in
-    let counted = counted-filled product t (entry .pre .0) _ (c .before .before .before .before .before .before .count-facts .ensures) in
+    let counted = counted-filled product t (entry .pre .0) _ (at-count-facts .count-facts .ensures) in
     answers-same (graphOf (filled t)) (graph (facts product t)) (filled-within t (entry .pre .0)) (facts-within t (entry .pre .0)) rulesInOrder (c .visit .result)
     (subst (λ l. Answers (graphOf l) rulesInOrder (c .visit .result)) counted (c .visit .ensures))
 

@@ -22,7 +22,10 @@ print-decimal-requires : tie.Need-print-decimal-requires
 print-decimal-requires c κs = search needs
 
 first-broken-requires : tie.Need-first-broken-requires
-first-broken-requires c κs = refused-laid (now (c .before .before .before .before .before .before .args .t)) (sym (c .if1 .taken) ∙ c .before .before .before .before .check .ensures)
+first-broken-requires c κs =
+    let at-check = c .before .before .before .before in
+    let entry = at-check .before .before in
+    refused-laid (now (entry .args .t)) (sym (c .if1 .taken) ∙ at-check .check .ensures)
 
 enum-known-visited : tie.Need-enum-known-visited
 enum-known-visited c = search needs

@@ -1,5 +1,5 @@
 -- `report::table_of` meets its contract, which only asks that it is safe and ends. The measure is the number of words left. Assumes nothing.
-use Prim.Native.Nat.{ℕ, _-_, _≤_}
+use Prim.Native.Nat.{_-_, _≤_}
 use borrow.Author.Needs.{needs}
 use Rattle.check_tables.proofs.report.table_of.Statement.{statement}
 use Rattle.check_tables.proofs.report.table_of.Tie as tie

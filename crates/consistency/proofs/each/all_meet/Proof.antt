@@ -1,18 +1,25 @@
 -- `each::all_meet` meets its contract. The loop's invariant: the words of kind k before `i` have ids as the rule asks, and those left stand
 -- from `i` up to `end`. The measure is their number. Assumes nothing.
 use Prim.Native.Nat.{ℕ, _-_}
-use mathlib.Core.Path.{sym, subst}
+use mathlib.Core.List.{List}
 use native.Mathlib.Omega.{arith}
 use borrow.Author.Needs.{needs}
 use denote.Ref.{now}
-use Rattle.consistency.specs.Graphs.{Each, graphOf}
+use Rattle.rdfs.specs.Rules.{Rule}
+use Rattle.table.specs.Parts.{firstOf, secondOf, thirdOf}
+use Rattle.consistency.specs.Runs.{at}
+use Rattle.consistency.specs.Graphs.{graphOf}
 use Rattle.consistency.specs.Asked.{Asks}
 use Rattle.consistency.specs.Order.{ruleOf}
 use Rattle.consistency.proofs.Decided.{decided-met, decided-broken}
 use Rattle.consistency.proofs.Passed.{Passed, passed-none, passed-more, passed-end}
-use Rattle.consistency.proofs.Meeting.{each-meets, meets-each}
+use Rattle.consistency.proofs.Meeting.{asked-meets, meets-asked}
 use Rattle.consistency.proofs.each.all_meet.Statement.{statement}
 use Rattle.consistency.proofs.each.all_meet.Tie as tie
+
+-- What the rule asks of the word at place i.
+abbrev Asked : List ℕ → Rule → ℕ → Type 0
+Asked t r i = let w = at t i in Asks (graphOf t) r (firstOf w) (secondOf w) (thirdOf w)
 
 abbrev Inv-loop : tie.InvT-loop
 Inv-loop t s rule k i₀ end i = Passed t k (Asks (graphOf t) (ruleOf rule)) end i
@@ -55,36 +62,49 @@ third-of-requires c κs = search needs
 
 ids-meet-requires : tie.Need-ids-meet-requires Inv-loop μ-loop
 ids-meet-requires c κs =
-    let entry = c .before .before .before .before .before .before .before .before .before .before .before .before in
-    let ids = entry .pre .0 .words .facts (c .before .before .before .before .before .loop .i) (omega (arith, c .before .before .before .before .before .loop .inv .within)) .allowed in
+    let at-before = c .before .before .before .before in
+    let at-loop = at-before .before in
+    let entry = at-loop .before .before .before .before .before .before .before in
+    let ids = entry .pre .0 .words .facts (at-loop .loop .i) (omega (arith, at-loop .loop .inv .within)) .allowed in
     (entry .pre .0, (rw (c .before .before .first-of .ensures) (ids .first), rw (c .before .second-of .ensures) (ids .second), rw (c .third-of .ensures) (ids .third)), entry .pre .4)
 
 returns : tie.Need-returns Inv-loop μ-loop
 returns c =
-    let entry = c .before .before .before .before .before .before .before .before .before .before .before .before .before .before in
-    let asked = rw (c .before .before .before .before .first-of .ensures, c .before .before .before .second-of .ensures, c .before .before .third-of .ensures) at (c .before .ids-meet .ensures) in
-    let left = c .before .before .before .before .before .before .before .loop .inv .left _ (omega arith) (c .before .before .before .before .before .before .loop-test .taken) in
-    λ m. decided-broken (c .before .ids-meet .result) _ asked (c .if1 .taken)
-    (subst (λ k. Each (now (entry .args .t)) k (Asks (graphOf (now (entry .args .t))) (ruleOf (entry .args .rule)))) (entry .pre .3) (meets-each (now (entry .args .t)) (entry .pre .0 .words) (ruleOf (entry .args .rule)) m) _ (omega (arith, c .before .before .before .before .before .before .before .loop .inv .within)) left)
+    let at-first-of = c .before .before .before .before in
+    let at-loop-test = at-first-of .before .before in
+    let at-loop = at-loop-test .before in
+    let entry = at-loop .before .before .before .before .before .before .before in
+    let words = now (entry .args .t) in
+    let rule = ruleOf (entry .args .rule) in
+    let i = at-loop .loop .i in
+    let answer = rw (at-first-of .first-of .ensures, c .before .before .before .second-of .ensures, c .before .before .third-of .ensures) at (c .before .ids-meet .ensures) in
+    let kind = at-loop .loop .inv .left i (omega arith) (at-loop-test .loop-test .taken) in
+    λ met. decided-broken (c .before .ids-meet .result) (Asked words rule i) answer (c .if1 .taken)
+    (meets-asked words rule _ (entry .pre .3) (entry .pre .0 .words) met i (omega (arith, at-loop .loop .inv .within)) kind)
 
 add-i : tie.Need-add-i Inv-loop μ-loop
-add-i c = omega (arith, c .before .before .before .before .before .before .before .loop .inv .within)
+add-i c =
+    let at-before = c .before .before .before .before .before .before in
+    let at-loop = at-before .before in
+    omega (arith, at-loop .loop .inv .within)
 
 loop-less : tie.Need-loop-less Inv-loop μ-loop
 loop-less c = omega arith
 
 loop-again : tie.Need-loop-again Inv-loop μ-loop
 loop-again c =
-    let asked = rw (c .before .before .before .before .first-of .ensures, c .before .before .before .second-of .ensures, c .before .before .third-of .ensures) at (c .before .ids-meet .ensures) in
-    passed-more _ _ _ _ (c .before .before .before .before .before .before .before .loop .inv) (c .before .before .before .before .before .before .loop-test .taken) (decided-met (c .before .ids-meet .result) _ asked (c .if1 .left))
+    let at-first-of = c .before .before .before .before in
+    let at-loop-test = at-first-of .before .before in
+    let at-loop = at-loop-test .before in
+    let entry = at-loop .before .before .before .before .before .before .before in
+    let asked = Asked (now (entry .args .t)) (ruleOf (entry .args .rule)) (at-loop .loop .i) in
+    let answer = rw (at-first-of .first-of .ensures, c .before .before .before .second-of .ensures, c .before .before .third-of .ensures) at (c .before .ids-meet .ensures) in
+    passed-more _ _ _ _ (at-loop .loop .inv) (at-loop-test .loop-test .taken) (decided-met (c .before .ids-meet .result) asked answer (c .if1 .left))
 
 returns-2 : tie.Need-returns-2 Inv-loop μ-loop
 returns-2 c =
     let entry = c .before .before .before .before .before .before .before .before in
-    let words = now (entry .args .t) in
-    let rule = ruleOf (entry .args .rule) in
-    each-meets words rule (omega (arith, entry .pre .3, entry .pre .1))
-    (subst (λ k. Each words k (Asks (graphOf words) rule)) (sym (entry .pre .3)) (passed-end _ _ _ _ (c .before .loop .inv) (c .loop-test .left)))
+    asked-meets (now (entry .args .t)) (ruleOf (entry .args .rule)) _ (entry .pre .3) (entry .pre .1) (passed-end _ _ _ _ (c .before .loop .inv) (c .loop-test .left))
 
 pub all-meet-spec : {M : Type 1} → statement M
 all-meet-spec =

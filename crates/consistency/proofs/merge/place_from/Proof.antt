@@ -1,6 +1,6 @@
 -- `merge::place_from` meets its contract. The loop's invariant: the words before `i` are below w. The measure is the number of
 -- places left. Assumes nothing.
-use Prim.Native.Nat.{ℕ, _-_, _≤_, _<_}
+use Prim.Native.Nat.{_-_, _≤_}
 use native.Mathlib.Omega.{arith}
 use lib.ListN.{length}
 use Rattle.consistency.specs.Runs.{Before}

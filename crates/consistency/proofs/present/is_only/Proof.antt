@@ -23,8 +23,10 @@ second-of-requires c κs = search needs
 
 returns : tie.Need-returns
 returns c =
-    let entry = c .before .before .before .before .before .before .before .before in
-    let start = rw (c .before .before .before .before .before .run-at .ensures) at (c .before .before .before .before .find-run .ensures) in
+    let at-find-run = c .before .before .before .before in
+    let at-run-at = at-find-run .before in
+    let entry = at-run-at .before .before .before in
+    let start = rw (at-run-at .run-at .ensures) at (at-find-run .find-run .ensures) in
     λ f. c .if2 .taken (c .before .second-of .ensures ∙ sym (f _ (run-stands (entry .pre .0 .words) _ _ (entry .pre .2) (entry .pre .3 .0) _ (c .before .before .before .if1 .taken) (start .here (c .before .before .before .if1 .taken)))))
 
 add-if3 : tie.Need-add-if3
@@ -44,23 +46,35 @@ run-of-requires c κs = search needs
 
 returns-2 : tie.Need-returns-2
 returns-2 c =
-    let entry = c .before .before .before .before .before .before .before .before .before .before .before .before in
-    let start = rw (c .before .before .before .before .before .before .before .before .before .run-at .ensures) at (c .before .before .before .before .before .before .before .before .find-run .ensures) in
+    let at-if2 = c .before .before .before .before in
+    let at-second-of = at-if2 .before in
+    let at-if1 = at-second-of .before .before in
+    let at-find-run = at-if1 .before in
+    let at-run-at = at-find-run .before in
+    let entry = at-run-at .before .before .before in
+    let start = rw (at-run-at .run-at .ensures) at (at-find-run .find-run .ensures) in
     let words = entry .pre .0 .words in
-    let same = sym (c .before .run-of .ensures) ∙ c .if4 .taken ∙ c .before .before .before .before .before .before .before .before .before .run-at .ensures in
-    λ f. run-differ words _ _ (entry .pre .2) (entry .pre .3 .0) _ _ (omega arith) (c .before .before .before .if3 .taken) (start .here (c .before .before .before .before .before .before .before .if1 .taken)) same
-    (sym (c .before .before .before .before .before .second-of .ensures) ∙ c .before .before .before .before .if2 .left ∙ f _ (run-stands words _ _ (entry .pre .2) (entry .pre .3 .0) _ (c .before .before .before .if3 .taken) same))
+    let same = sym (c .before .run-of .ensures) ∙ c .if4 .taken ∙ at-run-at .run-at .ensures in
+    λ f. run-differ words _ _ (entry .pre .2) (entry .pre .3 .0) _ _ (omega arith) (c .before .before .before .if3 .taken) (start .here (at-if1 .if1 .taken)) same
+    (sym (at-second-of .second-of .ensures) ∙ at-if2 .if2 .left ∙ f _ (run-stands words _ _ (entry .pre .2) (entry .pre .3 .0) _ (c .before .before .before .if3 .taken) same))
 
 returns-3 : tie.Need-returns-3
 returns-3 c =
-    let entry = c .before .before .before .before .before .before .before .before .before .before .before .before in
-    let start = rw (c .before .before .before .before .before .before .before .before .before .run-at .ensures) at (c .before .before .before .before .before .before .before .before .find-run .ensures) in
-    λ z h. sym (c .before .before .before .before .if2 .left) ∙ c .before .before .before .before .before .second-of .ensures ∙ only-one (entry .pre .0 .words) _ _ (entry .pre .2) (entry .pre .3 .0) _ start (λ l e. c .if4 .left (c .before .run-of .ensures ∙ e ∙ sym (c .before .before .before .before .before .before .before .before .before .run-at .ensures))) z h
+    let at-if2 = c .before .before .before .before in
+    let at-second-of = at-if2 .before in
+    let at-find-run = at-second-of .before .before .before in
+    let at-run-at = at-find-run .before in
+    let entry = at-run-at .before .before .before in
+    let start = rw (at-run-at .run-at .ensures) at (at-find-run .find-run .ensures) in
+    λ z h. sym (at-if2 .if2 .left) ∙ at-second-of .second-of .ensures ∙ only-one (entry .pre .0 .words) _ _ (entry .pre .2) (entry .pre .3 .0) _ start (λ l e. c .if4 .left (c .before .run-of .ensures ∙ e ∙ sym (at-run-at .run-at .ensures))) z h
 
 returns-4 : tie.Need-returns-4
 returns-4 c =
-    let entry = c .before .before .before .before .before .before .before .before .before in
-    let start = rw (c .before .before .before .before .before .before .run-at .ensures) at (c .before .before .before .before .before .find-run .ensures) in
+    let at-before = c .before .before .before .before in
+    let at-find-run = at-before .before in
+    let at-run-at = at-find-run .before in
+    let entry = at-run-at .before .before .before in
+    let start = rw (at-run-at .run-at .ensures) at (at-find-run .find-run .ensures) in
     λ z h. sym (c .before .if2 .left) ∙ c .before .before .second-of .ensures ∙ only-one (entry .pre .0 .words) _ _ (entry .pre .2) (entry .pre .3 .0) _ start (λ l e. omega (arith, c .if3 .left)) z h
 
 returns-5 : tie.Need-returns-5

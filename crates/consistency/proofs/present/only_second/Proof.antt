@@ -21,8 +21,9 @@ second-of-requires c κs = search needs
 
 returns : tie.Need-returns
 returns c =
-    let entry = c .before .before .before .before .before .before .before in
-    let start = rw (c .before .before .before .before .run-at .ensures) at (c .before .before .before .find-run .ensures) in
+    let at-run-at = c .before .before .before .before in
+    let entry = at-run-at .before .before .before in
+    let start = rw (at-run-at .run-at .ensures) at (c .before .before .before .find-run .ensures) in
     rw (c .second-of .ensures) (only-here (entry .pre .0 .words) _ _ (entry .pre .2) (entry .pre .3) _ start (entry .pre .4) (c .before .before .if1 .taken))
 
 returns-2 : tie.Need-returns-2

@@ -1,8 +1,6 @@
 -- `runs::fill_index` meets its contract. The loop's invariant: the words from `i` on are entered. The measure is `i`. Assumes nothing.
-use Prim.Native.Nat.{ℕ, _-_, _<_}
 use mathlib.Core.Path.{subst}
 use native.Mathlib.Omega.{arith}
-use lib.ListN.{length}
 use borrow.Author.Needs.{needs}
 use Rattle.consistency.proofs.Entered.{Entered, entered-none, entered-more, entered-all, entry-within}
 use Rattle.consistency.proofs.runs.fill_index.Statement.{statement}

@@ -6,8 +6,8 @@ use Rattle.consistency.proofs.Covering.{start-here, start-none}
 use Rattle.consistency.proofs.runs.find_run.Statement.{statement}
 use Rattle.consistency.proofs.runs.find_run.Tie as tie
 
-start-of-requires : tie.Need-start-of-requires
-start-of-requires c κs = search needs
+number-at-requires : tie.Need-number-at-requires
+number-at-requires c κs = search needs
 
 mul-run-of : tie.Need-mul-run-of
 mul-run-of c = search needs
@@ -20,24 +20,26 @@ run-of-requires c κs = search needs
 
 returns : tie.Need-returns
 returns c =
-    let entry = c .before .before .before .before .before .before .before in
-    start-here (entry .pre .0) _ _ (c .before .before .before .before .start-of .ensures) (c .before .before .before .if1 .taken) (sym (c .before .run-of .ensures) ∙ c .if2 .taken)
+    let at-number-at = c .before .before .before .before in
+    let entry = at-number-at .before .before .before in
+    start-here (entry .pre .0) _ _ (at-number-at .number-at .ensures) (c .before .before .before .if1 .taken) (sym (c .before .run-of .ensures) ∙ c .if2 .taken)
 
 returns-2 : tie.Need-returns-2
 returns-2 c =
-    let entry = c .before .before .before .before .before .before .before in
-    start-none (entry .pre .0) _ _ (c .before .before .before .before .start-of .ensures) (λ l e. c .if2 .left (c .before .run-of .ensures ∙ e))
+    let at-number-at = c .before .before .before .before in
+    let entry = at-number-at .before .before .before in
+    start-none (entry .pre .0) _ _ (at-number-at .number-at .ensures) (λ l e. c .if2 .left (c .before .run-of .ensures ∙ e))
 
 returns-3 : tie.Need-returns-3
 returns-3 c =
     let entry = c .before .before .before .before in
-    start-none (entry .pre .0) _ _ (c .before .start-of .ensures) (λ l e. omega arith)
+    start-none (entry .pre .0) _ _ (c .before .number-at .ensures) (λ l e. omega arith)
 
 pub find-run-spec : {M : Type 1} → statement M
 find-run-spec =
     tie.close
     (tie.spec
-    start-of-requires
+    number-at-requires
     mul-run-of
     shared-slice-read-run-of
     run-of-requires

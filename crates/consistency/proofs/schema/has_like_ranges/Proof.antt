@@ -12,16 +12,28 @@ only-second-requires-2 : tie.Need-only-second-requires-2
 only-second-requires-2 c κs = search needs
 
 returns : tie.Need-returns
-returns c = λ z w p q. ((λ e. c .before .before .before .before .only-second2 .ensures .all w q ∙ c .if4 .taken), (λ e. c .before .before .before .before .before .only-second .ensures .all z p ∙ c .before .if3 .taken))
+returns c =
+    let at-only-second2 = c .before .before .before .before in
+    let at-only-second = at-only-second2 .before in
+    λ z w p q. ((λ e. at-only-second2 .only-second2 .ensures .all w q ∙ c .if4 .taken), (λ e. at-only-second .only-second .ensures .all z p ∙ c .before .if3 .taken))
 
 returns-2 : tie.Need-returns-2
-returns-2 c = λ f. c .if4 .left (f _ _ (c .before .before .before .before .before .only-second .ensures .some (c .before .before .before .if1 .taken)) (c .before .before .before .before .only-second2 .ensures .some (c .before .before .if2 .taken)) .0 (c .before .if3 .taken))
+returns-2 c =
+    let at-only-second2 = c .before .before .before .before in
+    let at-only-second = at-only-second2 .before in
+    λ f. c .if4 .left (f _ _ (at-only-second .only-second .ensures .some (c .before .before .before .if1 .taken)) (at-only-second2 .only-second2 .ensures .some (c .before .before .if2 .taken)) .0 (c .before .if3 .taken))
 
 returns-3 : tie.Need-returns-3
-returns-3 c = λ f. c .before .if3 .left (f _ _ (c .before .before .before .before .before .only-second .ensures .some (c .before .before .before .if1 .taken)) (c .before .before .before .before .only-second2 .ensures .some (c .before .before .if2 .taken)) .1 (c .if5 .taken))
+returns-3 c =
+    let at-only-second2 = c .before .before .before .before in
+    let at-only-second = at-only-second2 .before in
+    λ f. c .before .if3 .left (f _ _ (at-only-second .only-second .ensures .some (c .before .before .before .if1 .taken)) (at-only-second2 .only-second2 .ensures .some (c .before .before .if2 .taken)) .1 (c .if5 .taken))
 
 returns-4 : tie.Need-returns-4
-returns-4 c = λ z w p q. ((λ e. absurd (c .before .if3 .left (sym (c .before .before .before .before .before .only-second .ensures .all z p) ∙ e))), (λ e. absurd (c .if5 .left (sym (c .before .before .before .before .only-second2 .ensures .all w q) ∙ e))))
+returns-4 c =
+    let at-only-second2 = c .before .before .before .before in
+    let at-only-second = at-only-second2 .before in
+    λ z w p q. ((λ e. absurd (c .before .if3 .left (sym (at-only-second .only-second .ensures .all z p) ∙ e))), (λ e. absurd (c .if5 .left (sym (at-only-second2 .only-second2 .ensures .all w q) ∙ e))))
 
 returns-5 : tie.Need-returns-5
 returns-5 c = λ z w p q. absurd (only-out (c .before .before .only-second2 .ensures) (c .if2 .left) w q)

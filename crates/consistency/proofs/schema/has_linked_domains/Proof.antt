@@ -1,5 +1,4 @@
 -- `schema::has_linked_domains` meets its contract: a and b have one domain each, or none. Assumes nothing.
-use Prim.Native.Nat.{ℕ}
 use mathlib.Core.Path.{_∙_, sym}
 use borrow.Author.Needs.{needs}
 use denote.Ref.{now}
@@ -20,16 +19,20 @@ has-fact-requires c κs = search needs
 
 returns : tie.Need-returns
 returns c =
-    let entry = c .before .before .before .before .before .before .before .before in
-    let za = c .before .before .before .before .before .only-second .ensures in
-    let zb = c .before .before .before .before .only-second2 .ensures in
+    let at-only-second2 = c .before .before .before .before in
+    let at-only-second = at-only-second2 .before in
+    let entry = at-only-second .before .before .before in
+    let za = at-only-second .only-second .ensures in
+    let zb = at-only-second2 .only-second2 .ensures in
     decides-as (c .has-fact .result) _ _
     (λ h z w p q n. only-both za zb (λ x y. Stands (now (entry .args .t)) 5 x y 0) h z w p q)
     (λ f. f _ _ (za .some (c .before .before .before .if1 .taken)) (zb .some (c .before .before .if2 .taken)) (c .before .if3 .taken))
     (c .has-fact .ensures)
 
 returns-2 : tie.Need-returns-2
-returns-2 c = λ z w p q n. absurd (n (c .before .before .before .before .only-second .ensures .all z p ∙ c .if3 .left ∙ sym (c .before .before .before .only-second2 .ensures .all w q)))
+returns-2 c =
+    let at-only-second = c .before .before .before .before in
+    λ z w p q n. absurd (n (at-only-second .only-second .ensures .all z p ∙ c .if3 .left ∙ sym (c .before .before .before .only-second2 .ensures .all w q)))
 
 returns-3 : tie.Need-returns-3
 returns-3 c = λ z w p q n. absurd (only-out (c .before .before .only-second2 .ensures) (c .if2 .left) w q)

@@ -16,17 +16,26 @@ has-fact-requires-3 : tie.Need-has-fact-requires-3
 has-fact-requires-3 c κs = search needs
 
 returns : tie.Need-returns
-returns c = (decides-true (c .before .before .before .before .before .has-fact .result) (c .before .before .before .before .before .has-fact .ensures) (c .before .before .before .before .if1 .taken), decides-true (c .before .before .before .has-fact2 .result) (c .before .before .before .has-fact2 .ensures) (c .before .before .if2 .taken), inl (decides-true (c .before .has-fact3 .result) (c .before .has-fact3 .ensures) (c .if3 .taken)))
+returns c =
+    let at-if1 = c .before .before .before .before in
+    let at-has-fact = at-if1 .before in
+    let subject = decides-true (at-has-fact .has-fact .result) (at-has-fact .has-fact .ensures) (at-if1 .if1 .taken) in
+    let property = decides-true (c .before .before .before .has-fact2 .result) (c .before .before .before .has-fact2 .ensures) (c .before .before .if2 .taken) in
+    let object = decides-true (c .before .has-fact3 .result) (c .before .has-fact3 .ensures) (c .if3 .taken) in
+    (subject, property, inl object)
 
 has-fact-requires-4 : tie.Need-has-fact-requires-4
 has-fact-requires-4 c κs = search needs
 
 returns-2 : tie.Need-returns-2
 returns-2 c =
-    decides-as (c .has-fact4 .result) _ _
-    (λ h. (decides-true (c .before .before .before .before .before .before .has-fact .result) (c .before .before .before .before .before .before .has-fact .ensures) (c .before .before .before .before .before .if1 .taken), decides-true (c .before .before .before .before .has-fact2 .result) (c .before .before .before .before .has-fact2 .ensures) (c .before .before .before .if2 .taken), inr h))
-    (λ h. ⊎-elim (λ x. absurd (decides-false (c .before .before .has-fact3 .result) (c .before .before .has-fact3 .ensures) (c .before .if3 .left) x)) (λ x. x) (h .2))
-    (c .has-fact4 .ensures)
+    let at-has-fact2 = c .before .before .before .before in
+    let at-if1 = at-has-fact2 .before in
+    let at-has-fact = at-if1 .before in
+    let subject = decides-true (at-has-fact .has-fact .result) (at-has-fact .has-fact .ensures) (at-if1 .if1 .taken) in
+    let property = decides-true (at-has-fact2 .has-fact2 .result) (at-has-fact2 .has-fact2 .ensures) (c .before .before .before .if2 .taken) in
+    let not-individual = decides-false (c .before .before .has-fact3 .result) (c .before .before .has-fact3 .ensures) (c .before .if3 .left) in
+    decides-as (c .has-fact4 .result) _ _ (λ h. (subject, property, inr h)) (λ h. ⊎-elim (λ x. absurd (not-individual x)) (λ x. x) (h .2)) (c .has-fact4 .ensures)
 
 returns-3 : tie.Need-returns-3
 returns-3 c = λ h. decides-false (c .before .has-fact2 .result) (c .before .has-fact2 .ensures) (c .if2 .left) (h .1)

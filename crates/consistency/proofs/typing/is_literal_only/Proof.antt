@@ -22,8 +22,9 @@ lacks-fact-requires c κs = search needs
 
 returns-3 : tie.Need-returns-3
 returns-3 c =
+    let at-has-fact = c .before .before .before .before in
     decides-as (c .lacks-fact .result) _ _
-    (λ h. (decides-false (c .before .before .before .before .has-fact .result) (c .before .before .before .before .has-fact .ensures) (c .before .before .before .if1 .left), decides-false (c .before .before .has-fact2 .result) (c .before .before .has-fact2 .ensures) (c .before .if2 .left), h))
+    (λ h. (decides-false (at-has-fact .has-fact .result) (at-has-fact .has-fact .ensures) (c .before .before .before .if1 .left), decides-false (c .before .before .has-fact2 .result) (c .before .before .has-fact2 .ensures) (c .before .if2 .left), h))
     (λ h. h .2)
     (c .lacks-fact .ensures)
 

@@ -1,0 +1,72 @@
+-- What is proved of images, in one place. Assumes nothing.
+use Prim.Native.Nat.{ℕ, _≤_}
+use mathlib.Core.Path.{_≡_, refl, sym, ap, subst, _∙_}
+use mathlib.Core.Bool.{Bool, false, not}
+use mathlib.Core.List.{List, map}
+use native.Mathlib.Omega.{arith}
+use lib.Dec.{ltb, lit≤}
+use lib.ListN.{length, take, drop}
+use borrow.Author.Tests.{ltb-false}
+use Rattle.rdfs.specs.Numbers.{Numbers, Sound, product}
+use Rattle.rdfs.specs.Lists.{_∈_}
+use Rattle.rdfs.specs.Clashes.{consistent?}
+use Rattle.rdfs.specs.Words.{fact, filled, padded}
+use Rattle.rdfs.specs.Register.{orElse, badSize, inconsistent, tableRefusal}
+use Rattle.rdfs.proofs.LaidOut.{laid-shape}
+use Rattle.rdfs.proofs.Theorems.{product-sound}
+use Rattle.table.proofs.Sizes.{size-some}
+use Rattle.table.proofs.Filled.{filled-within}
+use Rattle.image.specs.Form.{Form, Proper, form, kinds}
+use Rattle.image.specs.Image.{bodyOf, imageOf}
+use Rattle.image.specs.Reading.{Facts, wordsOf, malformed, bodyStart, bodySize}
+use Rattle.image.specs.Calls.{tableImage, imageRefusal, readAnswer, readWords}
+use Rattle.image.proofs.RoundTrip.{words-again, written-well, read-well, words-full, body-ids, filled-facts}
+use Rattle.image.proofs.Product.{proper}
+use Rattle.image.proofs.ReadCall.{else-none, read-checked, read-done, judged-fits, size-most, held-filled, held-checked}
+use Rattle.image.proofs.WriteCall.{accepted-laid, accepted-consistent}
+
+-- For any numbers and any form with an entry for each kind: an image that was written is well formed and gives its words.
+pub written-reads : (N : Numbers) (F : Form) → Sound N → Proper F → 10 ≤ F .entries → (l : List ℕ) → Facts N l
+    → (wordsOf N F (imageOf N F l) ≡ l) × (malformed N F (imageOf N F l) ≡ false)
+written-reads N F s p h l f = (words-again N F s p h l f, written-well N F s p h l f)
+
+-- Bytes that are well formed are exactly the image of the words that they give, so no other image is read.
+pub read-is-written : (N : Numbers) (F : Form) → Sound N → (bytes : List ℕ) → malformed N F bytes ≡ false → (bytes ≡ imageOf N F (wordsOf N F bytes)) × Facts N (wordsOf N F bytes)
+read-is-written N F s bytes e = let r = read-well N F bytes e in (r .0, record { laid = r .1; full = words-full N F s bytes })
+
+-- The body of a kind in an image that was written is the ids of that kind's facts, in order.
+pub body-is-ids : (N : Numbers) (F : Form) → Sound N → Proper F → 10 ≤ F .entries → (l : List ℕ) → Facts N l → (k : ℕ) → k ∈ kinds F
+    → let image : List ℕ = imageOf N F l in take (bodySize N F image k) (drop (bodyStart N F image k) image) ≡ bodyOf N F l k
+body-is-ids N F s p h l f k i = body-ids N F s p h l f k i
+
+-- A table that is not refused, written and read into a table of any length that holds its facts: answer 0, the same facts, then zeros.
+pub image-reads-back : (t u : List ℕ) → 0 ≡ tableRefusal product t 0 → badSize product u ≡ false → length (filled t) ≤ length u
+    → (0 ≡ readAnswer u (tableImage t)) × (padded (length u) (filled t) ≡ readWords u (tableImage t))
+image-reads-back t u e size h =
+    let l : List ℕ = filled t in
+    let bytes : List ℕ = tableImage t in
+    let f : Facts product l = filled-facts product product-sound t (accepted-laid t e) in
+    let r = written-reads product form product-sound proper (lit≤ tt) l f in
+    let fits : 0 ≡ imageRefusal bytes (length u) 0 = judged-fits bytes (length u) (r .1) (subst (λ m. length m ≤ length u) (sym (r .0)) h) in
+    let same : inconsistent product (wordsOf product form bytes) ≡ false = ap (inconsistent product) (r .0) ∙ (ap (λ m. not (consistent? (map (fact (product .base)) m))) (f .full) ∙ accepted-consistent t e) in
+    read-done u bytes (read-checked u bytes size fits 0 (sym (ap (λ b. orElse b 3 0) same))) (padded (length u) l) (ap (padded (length u)) (sym (r .0)))
+
+-- Read into a table of its own length it is the same table.
+pub table-reads-back : (t u : List ℕ) → 0 ≡ tableRefusal product t 0 → badSize product u ≡ false → length t ≡ length u → t ≡ readWords u (tableImage t)
+table-reads-back t u e size h =
+    laid-shape product t (accepted-laid t e) ∙ (ap (λ n. padded n (filled t)) h
+    ∙ image-reads-back t u e size (subst (λ n. length (filled t) ≤ n) h (filled-within product t (accepted-laid t e))) .1)
+
+-- Bytes that are read are exactly the image that writing gives for the table read, which writing does not refuse.
+pub read-writes : (t bytes : List ℕ) → 0 ≡ readAnswer t bytes → (bytes ≡ tableImage (readWords t bytes)) × (0 ≡ tableRefusal product (readWords t bytes) 0)
+read-writes t bytes e =
+    let last : ℕ = orElse (inconsistent product (wordsOf product form bytes)) 3 0 in
+    let more : Bool = ltb (length t) (length (wordsOf product form bytes)) in
+    let a = else-none (badSize product t) 1 (imageRefusal bytes (length t) last) (omega arith) (sym e) in
+    let b = else-none (malformed product form bytes) 12 (orElse more 11 last) (omega arith) (a .1) in
+    let c = else-none more 11 last (omega arith) (b .1) in
+    let fits : length (wordsOf product form bytes) ≤ length t = ltb-false (length t) (length (wordsOf product form bytes)) (c .0) in
+    let held : readWords t bytes ≡ padded (length t) (wordsOf product form bytes) = sym (read-done t bytes e (padded (length t) (wordsOf product form bytes)) refl .1) in (
+      read-well product form bytes (b .0) .0 ∙ ap (imageOf product form) (sym (ap filled held ∙ held-filled bytes (b .0) (length t) fits)),
+      sym (ap (λ w. tableRefusal product w 0) held ∙ (held-checked bytes (b .0) (length t) fits (size-some product t (a .0)) (size-most t (a .0)) ∙ c .1)),
+    )

@@ -1,0 +1,40 @@
+-- What the public calls answer and leave, for all words of a table and all bytes.
+use Prim.Native.Nat.{ℕ}
+use mathlib.Core.Bool.{cond}
+use mathlib.Core.List.{List, _++_}
+use lib.Dec.{eqb, ltb}
+use lib.ListN.{length, drop}
+use Rattle.rdfs.specs.Numbers.{product}
+use Rattle.rdfs.specs.Words.{filled, padded}
+use Rattle.rdfs.specs.Register.{orElse, badSize, inconsistent, tableRefusal}
+use Rattle.image.specs.Form.{form}
+use Rattle.image.specs.Image.{imageOf}
+use Rattle.image.specs.Reading.{wordsOf, malformed}
+
+-- The image of a table's facts.
+abbrev pub tableImage : List ℕ → List ℕ
+tableImage t = imageOf product form (filled t)
+
+-- Writing: refusals 1, 2, 3, 13.
+abbrev pub writeAnswer : List ℕ → List ℕ → ℕ
+writeAnswer t output = tableRefusal product t (orElse (ltb (length output) (length (tableImage t))) 13 0)
+
+-- The image's length; 0 on refusal.
+abbrev pub writeLength : List ℕ → List ℕ → ℕ
+writeLength t output = cond (eqb (writeAnswer t output) 0) (length (tableImage t)) 0
+
+-- The image, then the bytes that stood there; on refusal the bytes as they were.
+abbrev pub writeBytes : List ℕ → List ℕ → List ℕ
+writeBytes t output = cond (eqb (writeAnswer t output) 0) (tableImage t ++ drop (length (tableImage t)) output) output
+
+-- Refusals 12 and 11 of bytes that are to be read into a number of words, then others.
+abbrev pub imageRefusal : List ℕ → ℕ → ℕ → ℕ
+imageRefusal bytes room rest = orElse (malformed product form bytes) 12 (orElse (ltb room (length (wordsOf product form bytes))) 11 rest)
+
+-- Reading: refusals 1, 12, 11, 3. The table's words are not looked at.
+abbrev pub readAnswer : List ℕ → List ℕ → ℕ
+readAnswer t bytes = orElse (badSize product t) 1 (imageRefusal bytes (length t) (orElse (inconsistent product (wordsOf product form bytes)) 3 0))
+
+-- The image's words, then zeros; on refusal the words as they were.
+abbrev pub readWords : List ℕ → List ℕ → List ℕ
+readWords t bytes = cond (eqb (readAnswer t bytes) 0) (padded (length t) (wordsOf product form bytes)) t

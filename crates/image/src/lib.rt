@@ -1,0 +1,109 @@
+// The image of a table: contents, then one body for each kind. It is written into lent bytes, read into a lent table, and a kind's body is
+// handed out as a part of it.
+//
+// The public calls are `write`, `read` and `body`. They have no `requires`: each says, for all inputs, what it answers and every word and byte
+// afterwards; `body` also says where its part lies. An image that was written is read back as its table, and no other image is read
+// (proofs/Theorems.antt). The crate assumes nothing.
+ghost use mathlib.Core.Path.{_≡_};
+ghost use Rattle.rdfs.specs.Numbers.{product};
+ghost use Rattle.image.specs.Form.{form};
+ghost use Rattle.image.specs.Reading.{bodyStart, bodySize};
+ghost use Rattle.image.specs.Parts.{IsPart};
+ghost use Rattle.image.specs.Calls.{writeAnswer, writeLength, writeBytes, readAnswer, readWords};
+
+mod bodies;
+mod contents;
+mod form;
+mod reader;
+mod writer;
+
+use bodies::has_body;
+use consistency::check;
+use contents::count_at;
+use contents::start_at;
+use form::fact_size;
+use reader::copy_words;
+use reader::fill_words;
+use reader::image_refusal;
+use table::BAD_SIZE;
+use table::MOST;
+use table::Word;
+use table::count_facts;
+use table::is_bad_size;
+use writer::image_length;
+use writer::put_bodies;
+use writer::put_contents;
+
+// What writing answers: 0 or a refusal, and the image's length, 0 on refusal.
+pub struct Written {
+    pub answer: u8,
+    pub length: u16,
+}
+
+// Refusal 13: output shorter than the image.
+pub const SHORT_OUTPUT: u8 = 13;
+
+// Writes the image of a table. The bytes after it are untouched. Refused with 1, 2, 3 or 13, all bytes are as they were.
+pub fn write(t: &[Word], output: &mut [u8]) -> Written
+    ensures { λ r. ⌜ (r .answer ≡ writeAnswer (now (t .entry)) (now (output .entry))) × (r .length ≡ writeLength (now (t .entry)) (now (output .entry))) × (now (output .exit) ≡ writeBytes (now (t .entry)) (now (output .entry))) ⌝ }
+{
+    let answer = check(t);
+    if answer != 0 {
+        return Written { answer, length: 0 };
+    }
+    let n = count_facts(t);
+    let length = image_length(t, n);
+    if output.len() < length {
+        return Written {
+            answer: SHORT_OUTPUT,
+            length: 0,
+        };
+    }
+    put_contents(t, n, output);
+    put_bodies(t, n, output);
+    Written {
+        answer: 0,
+        length: length as u16,
+    }
+}
+
+// The body of a kind, as a part of the image. If the image is malformed or the number is no kind, the empty part at the image's end.
+// An empty body of a good image is the empty part at its own start.
+pub fn body(image: &[u8], kind: u8) -> &[u8]
+    ensures { λ r. ⌜ IsPart (image .entry) r (bodyStart product form (now (image .entry)) kind) (bodySize product form (now (image .entry)) kind) ⌝ }
+{
+    let k = kind as Word;
+    let there = has_body(image, k);
+    let end = image.len();
+    if !there {
+        return &image[end..end];
+    }
+    let from = start_at(image, k);
+    let size = fact_size(k);
+    let count = count_at(image, k);
+    let to = from + size * count;
+    &image[from..to]
+}
+
+// Reads an image into a table: its words, then zeros. Refused with 1, 12, 11 or 3, the words are as they were. The words that the table
+// held are not looked at.
+pub fn read(t: &mut [Word], image: &[u8]) -> u8
+    ensures { λ r. ⌜ (r ≡ readAnswer (now (t .entry)) (now (image .entry))) × (now (t .exit) ≡ readWords (now (t .entry)) (now (image .entry))) ⌝ }
+{
+    let bad = is_bad_size(t);
+    if bad {
+        return BAD_SIZE;
+    }
+    let refusal = image_refusal(image, t.len());
+    if refusal != 0 {
+        return refusal;
+    }
+    let mut work = [0u32; MOST];
+    fill_words(&mut work, image);
+    let answer = check(&work);
+    if answer != 0 {
+        return answer;
+    }
+    copy_words(t, &work);
+    0
+}

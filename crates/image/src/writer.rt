@@ -1,0 +1,130 @@
+// The image of a table, written into lent bytes.
+ghost use mathlib.Core.Path.{_≡_};
+ghost use mathlib.Core.List.{_++_};
+ghost use Prim.Native.Nat.{_+_, _/_, _%_, _≤_, _<_};
+ghost use lib.Dec.{T};
+ghost use lib.ListN.{length, set, take, drop};
+ghost use Rattle.rdfs.specs.Numbers.{product};
+ghost use Rattle.rdfs.specs.Words.{isFact, filled};
+ghost use Rattle.image.specs.Form.{form, entryAt, firstBody};
+ghost use Rattle.image.specs.Image.{ofKind, idBytes, entry};
+ghost use Rattle.image.specs.Calls.{tableImage};
+ghost use Rattle.image.specs.Writing.{Counted, over};
+use crate::form::BYTE;
+use crate::form::EDITION;
+use crate::form::ENTRIES;
+use crate::form::FIELD_SIZE;
+use crate::form::FIELDS;
+use crate::form::FIRST_BODY;
+use crate::form::entry_at;
+use crate::form::fact_size;
+use table::Word;
+use table::arity_of;
+use table::count_below;
+use table::first_of;
+use table::kind_of;
+use table::second_of;
+use table::third_of;
+use table::word_of;
+
+// How many facts of kind k a table has.
+pub fn kind_count(t: &[Word], n: usize, k: Word) -> usize
+    requires { ⌜ Counted (now t) n × (k ≤ 10) ⌝ }
+    ensures { λ r. ⌜ (r ≡ length (ofKind product k (filled (now (t .entry))))) × (r ≤ 2048) ⌝ }
+{
+    let first = word_of(k, 0, 0, 0);
+    let next = word_of(k + 1, 0, 0, 0);
+    let from = count_below(t, n, first);
+    let to = count_below(t, n, next);
+    to - from
+}
+
+// The length of a table's image.
+pub fn image_length(t: &[Word], n: usize) -> usize
+    requires { ⌜ Counted (now t) n ⌝ }
+    ensures { λ r. ⌜ (r ≡ length (tableImage (now (t .entry)))) × (r < 65536) ⌝ }
+{
+    let mut done: Word = 0;
+    let mut start = FIRST_BODY;
+    while done < ENTRIES {
+        let k = done + 1;
+        let size = fact_size(k);
+        let count = kind_count(t, n, k);
+        start += size * count;
+        done = k;
+    }
+    start
+}
+
+// Stores a start or a count: 16 bits, low byte first.
+fn put_number(output: &mut [u8], at: usize, value: usize)
+    requires { ⌜ (at + 2 ≤ length (now output)) × (value < 65536) ⌝ }
+    ensures { λ _. ⌜ now (output .exit) ≡ set (set (now (output .entry)) at (value % 256)) (at + 1) (value / 256) ⌝ }
+{
+    output[at] = (value % BYTE) as u8;
+    output[at + 1] = (value / BYTE) as u8;
+}
+
+// Stores the entry of kind k.
+fn put_entry(output: &mut [u8], k: Word, start: usize, count: usize)
+    requires { ⌜ (1 ≤ k) × (k ≤ 10) × (firstBody form ≤ length (now output)) × (start < 65536) × (count < 65536) ⌝ }
+    ensures { λ _. ⌜ now (output .exit) ≡ over (now (output .entry)) (entryAt form k) (entry form k start count) ⌝ }
+{
+    let at = entry_at(k);
+    let size = fact_size(k);
+    output[at] = k as u8;
+    output[at + 1] = size as u8;
+    put_number(output, at + FIELDS, start);
+    put_number(output, at + FIELDS + FIELD_SIZE, count);
+}
+
+// Stores the contents of a table's image.
+pub fn put_contents(t: &[Word], n: usize, output: &mut [u8])
+    requires { ⌜ Counted (now t) n × (length (tableImage (now t)) ≤ length (now output)) ⌝ }
+    ensures { λ _. ⌜ now (output .exit) ≡ take (firstBody form) (tableImage (now (t .entry))) ++ drop (firstBody form) (now (output .entry)) ⌝ }
+{
+    output[0] = EDITION as u8;
+    output[1] = ENTRIES as u8;
+    let mut done: Word = 0;
+    let mut start = FIRST_BODY;
+    while done < ENTRIES {
+        let k = done + 1;
+        let size = fact_size(k);
+        let count = kind_count(t, n, k);
+        put_entry(output, k, start, count);
+        start += size * count;
+        done = k;
+    }
+}
+
+// Stores the ids of a fact, and answers the place after them.
+fn put_fact(output: &mut [u8], at: usize, w: Word) -> usize
+    requires { ⌜ T (isFact product w) × (at + length (idBytes product form w) ≤ length (now output)) ⌝ }
+    ensures { λ r. ⌜ (r ≡ at + length (idBytes product form w)) × (now (output .exit) ≡ over (now (output .entry)) at (idBytes product form w)) ⌝ }
+{
+    let k = kind_of(w);
+    let n = arity_of(k);
+    output[at] = first_of(w) as u8;
+    if n == 1 {
+        return at + 1;
+    }
+    output[at + 1] = second_of(w) as u8;
+    if n == 2 {
+        return at + 2;
+    }
+    output[at + 2] = third_of(w) as u8;
+    at + 3
+}
+
+// Stores the bodies of a table's image, behind its contents.
+pub fn put_bodies(t: &[Word], n: usize, output: &mut [u8])
+    requires { ⌜ Counted (now t) n × (length (tableImage (now t)) ≤ length (now output)) × (take (firstBody form) (now output) ≡ take (firstBody form) (tableImage (now t))) ⌝ }
+    ensures { λ _. ⌜ now (output .exit) ≡ tableImage (now (t .entry)) ++ drop (length (tableImage (now (t .entry)))) (now (output .entry)) ⌝ }
+{
+    let mut i = 0;
+    let mut at = FIRST_BODY;
+    while i < n {
+        at = put_fact(output, at, t[i]);
+        i += 1;
+    }
+}

@@ -1,0 +1,3 @@
+-- Host: each way through `vimelosa_apply`. Theorems: which refusals its steps can give.
+pub mod Host
+pub mod Theorems

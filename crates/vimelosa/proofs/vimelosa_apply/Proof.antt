@@ -1,0 +1,97 @@
+-- `vimelosa_apply`: each way through it, in the order of its steps. Assumes nothing.
+use mathlib.Core.Path.{sym, _∙_}
+use Rattle.vimelosa.proofs.Host.{read-table, way-unread, way-unapplied, way-unwritten, way-done}
+use borrow.Author.Needs.{needs}
+use Rattle.vimelosa.proofs.vimelosa_apply.Statement.{statement}
+use Rattle.vimelosa.proofs.vimelosa_apply.Tie as tie
+
+slice-aggregate-read : tie.Need-slice-aggregate-read
+slice-aggregate-read c = search needs
+
+read-requires : tie.Need-read-requires
+read-requires c κs = search needs
+
+pack-requires : tie.Need-pack-requires
+pack-requires c κs = search needs
+
+returns : tie.Need-returns
+returns c =
+    let d = c .before .before .before in
+    let s = d .before .before .before .before .before .args in
+    way-unread (s .image .now) (s .ticket .now) (s .output .now) (d .read .result) (c .pack .result) (d .read .ensures .0) (c .before .if1 .taken) (c .pack .ensures)
+
+slice-aggregate-apply-checked : tie.Need-slice-aggregate-apply-checked
+slice-aggregate-apply-checked c = search needs
+
+apply-checked-requires : tie.Need-apply-checked-requires
+apply-checked-requires c κs =
+    let d = c .before .before .before in
+    let s = d .before .before .before .before .before .args in
+    read-table (s .image .now) (d .read .result) (d .read .ensures .0) (c .before .if1 .left) (d .read .ensures .1)
+
+pack-requires-2 : tie.Need-pack-requires-2
+pack-requires-2 c κs = search needs
+
+returns-2 : tie.Need-returns-2
+returns-2 c =
+    let e = c .before .before .before .before in
+    let d = e .before .before .before .before in
+    let s = d .before .before .before .before .before .args in
+    way-unapplied (s .image .now) (s .ticket .now) (s .output .now) (sym (d .read .ensures .0) ∙ e .before .before .if1 .left) (d .read .ensures .1) (e .apply-checked .result) (e .apply-checked .ensures) (c .pack2 .result) (c .before .if2 .taken) (c .pack2 .ensures)
+
+slice-aggregate-write : tie.Need-slice-aggregate-write
+slice-aggregate-write c = search needs
+
+write-requires : tie.Need-write-requires
+write-requires c κs = search needs
+
+pack-requires-3 : tie.Need-pack-requires-3
+pack-requires-3 c κs = search needs
+
+same-length : tie.Need-same-length
+same-length c = search needs
+
+returns-3 : tie.Need-returns-3
+returns-3 c =
+    let w = c .before .before .before .before .before in
+    let e = w .before .before .before .before .before .before in
+    let d = e .before .before .before .before in
+    let s = d .before .before .before .before .before .args in
+    way-unwritten (s .image .now) (s .ticket .now) (s .output .now) (sym (d .read .ensures .0) ∙ e .before .before .if1 .left) (d .read .ensures .1) (e .apply-checked .result) (e .apply-checked .ensures) (w .before .before .before .if2 .left)
+    (w .write .result .answer) (w .write .result .length) (w .write .last .1 .0) (w .write .ensures .0) (w .write .ensures .1) (w .write .ensures .2) (c .pack3 .result) (c .before .if3 .taken) (c .pack3 .ensures)
+
+pack-requires-4 : tie.Need-pack-requires-4
+pack-requires-4 c κs = search needs
+
+same-length-2 : tie.Need-same-length-2
+same-length-2 c = search needs
+
+returns-4 : tie.Need-returns-4
+returns-4 c =
+    let w = c .before .before .before .before .before in
+    let e = w .before .before .before .before .before .before in
+    let d = e .before .before .before .before in
+    let s = d .before .before .before .before .before .args in
+    way-done (s .image .now) (s .ticket .now) (s .output .now) (sym (d .read .ensures .0) ∙ e .before .before .if1 .left) (d .read .ensures .1) (e .apply-checked .result) (e .apply-checked .ensures) (w .before .before .before .if2 .left)
+    (w .write .result .answer) (w .write .result .length) (w .write .last .1 .0) (w .write .ensures .0) (w .write .ensures .1) (w .write .ensures .2) (c .pack4 .result) (c .before .if3 .left) (c .pack4 .ensures)
+
+pub vimelosa-apply-spec : {M : Type 1} → statement M
+vimelosa-apply-spec =
+    tie.close
+    (tie.spec
+    slice-aggregate-read
+    read-requires
+    pack-requires
+    returns
+    slice-aggregate-apply-checked
+    apply-checked-requires
+    pack-requires-2
+    returns-2
+    slice-aggregate-write
+    write-requires
+    pack-requires-3
+    same-length
+    returns-3
+    pack-requires-4
+    same-length-2
+    returns-4)

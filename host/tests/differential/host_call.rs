@@ -1,0 +1,138 @@
+//! The host call on images, tickets and outputs of every sort.
+
+use crate::generator::damage::{damaged, each_contents_byte_changed};
+use crate::generator::tickets::{bad_ticket, short_ticket, ticket, Ids, ALL_IDS, FEW, MANY, PLENTY};
+use crate::generator::{graphs, rounds, Random};
+use crate::guarded::same_call;
+use crate::image;
+use vimelosa_host::LONGEST_IMAGE;
+
+/// A ticket of any sort: most are good, some are bad, some have another length.
+fn any_ticket(random: &mut Random, ids: &Ids) -> Vec<u8> {
+    match random.below(12) {
+        0 => bad_ticket(random, ids).to_vec(),
+        1 => short_ticket(random),
+        _ => ticket(random, ids).to_vec(),
+    }
+}
+
+#[test]
+fn on_growing_graphs() {
+    let mut random = Random::for_test("host_call_on_growing_graphs");
+    for round in 0..rounds(250) {
+        let mut image = vimelosa_host::Graph::fresh().image().to_vec();
+        for _ in 0..50 {
+            let ticket = any_ticket(&mut random, &ALL_IDS[round % 4]);
+            let around = random.below(image.len() + 8);
+            let length = if random.is_one_in(6) { around } else { LONGEST_IMAGE };
+            let (number, output) = same_call(&image, &ticket, length);
+            if number as u16 == 0 {
+                image = output[..(number >> 48) as usize].to_vec();
+            }
+        }
+    }
+}
+
+#[test]
+fn on_damaged_images() {
+    let mut random = Random::for_test("host_call_on_damaged_images");
+    for round in 0..rounds(500) {
+        let ids = &ALL_IDS[round % 4];
+        let whole = image(&graphs::grown(&mut random, ids, 30, 2048));
+        for _ in 0..6 {
+            let ticket = any_ticket(&mut random, ids);
+            same_call(&damaged(&mut random, &whole), &ticket, LONGEST_IMAGE);
+        }
+        let disturbed = image(&graphs::disturbed(&mut random, &FEW, 50));
+        same_call(&disturbed, &any_ticket(&mut random, &FEW), LONGEST_IMAGE);
+        let marked = image(&graphs::marked(&mut random, &FEW));
+        same_call(&marked, &any_ticket(&mut random, &FEW), LONGEST_IMAGE);
+    }
+}
+
+#[test]
+fn on_changed_contents() {
+    let mut random = Random::for_test("host_call_on_changed_contents");
+    let whole = image(&graphs::grown(&mut random, &MANY, 40, 2048));
+    for changed in each_contents_byte_changed(&whole) {
+        same_call(&changed, &[1, 3, 77, 0, 0], LONGEST_IMAGE);
+    }
+}
+
+#[test]
+fn on_full_tables() {
+    let mut random = Random::for_test("host_call_on_full_tables");
+    let mut seen = [0; 15];
+    for round in 0..rounds(6) {
+        let full = image(&graphs::filled(&mut random, [2048, 2047, 2040][round % 3]));
+        let ids = Ids { deletions: 4, ..[MANY, PLENTY][round % 2] };
+        for _ in 0..60 {
+            let ticket = any_ticket(&mut random, &ids);
+            let (number, _) = same_call(&full, &ticket, LONGEST_IMAGE);
+            seen[usize::from(number as u16)] += 1;
+        }
+    }
+    assert!([0, 10, 11].iter().all(|number| seen[*number] > 5), "{seen:?}");
+}
+
+#[test]
+fn on_every_image_length() {
+    let mut random = Random::for_test("host_call_on_every_image_length");
+    let whole = image(&graphs::filled(&mut random, 200));
+    for length in 0..=whole.len() {
+        same_call(&whole[..length], &[1, 3, 77, 0, 0], LONGEST_IMAGE);
+    }
+}
+
+#[test]
+fn on_every_ticket_length() {
+    let mut random = Random::for_test("host_call_on_every_ticket_length");
+    let whole = image(&graphs::grown(&mut random, &MANY, 40, 2048));
+    for length in 0..40 {
+        let ticket = [1, 1, 2, 0, 0].repeat(8)[..length].to_vec();
+        same_call(&whole, &ticket, LONGEST_IMAGE);
+    }
+}
+
+/// Every length of the output up to some bytes more than the new image, for insertions and deletions.
+#[test]
+fn on_every_output_length() {
+    let mut random = Random::for_test("host_call_on_every_output_length");
+    for round in 0..rounds(6) {
+        let whole = image(&graphs::grown(&mut random, &FEW, 20, 60));
+        let ticket = [[1, 3, 77, 0, 0], [2, 1, 3, 0, 0]][round % 2];
+        let (number, _) = same_call(&whole, &ticket, LONGEST_IMAGE);
+        let length = (number >> 48) as usize;
+        assert!(length > 62);
+        for short in 0..length {
+            assert_eq!(same_call(&whole, &ticket, short).0, 13);
+        }
+        for long in length..length + 4 {
+            assert_eq!(same_call(&whole, &ticket, long).0, number);
+        }
+    }
+}
+
+/// One byte short for many graphs: the new image counts, not the old one.
+#[test]
+fn with_the_output_one_byte_short() {
+    let mut random = Random::for_test("host_call_one_byte_short");
+    for round in 0..rounds(150) {
+        let ids = Ids { deletions: 2, ..ALL_IDS[round % 4] };
+        let whole = image(&graphs::grown(&mut random, &ids, 30, 2048));
+        let ticket = ticket(&mut random, &ids);
+        let (number, _) = same_call(&whole, &ticket, LONGEST_IMAGE);
+        let length = (number >> 48) as usize;
+        if length > 0 {
+            assert_eq!(same_call(&whole, &ticket, length - 1).0, 13);
+            assert_eq!(same_call(&whole, &ticket, length).0, number);
+        }
+    }
+}
+
+#[test]
+fn on_overlong_images() {
+    let whole = image(&graphs::overlong());
+    assert_eq!(same_call(&whole, &[1, 1, 2, 0, 0], LONGEST_IMAGE).0, 11);
+    assert_eq!(same_call(&whole[1..], &[1, 1, 2, 0, 0], LONGEST_IMAGE).0, 12);
+}

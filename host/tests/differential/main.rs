@@ -1,0 +1,21 @@
+//! Program one, program two and the host call beside the independent implementation. VIMELOSA_TEST_ROUNDS runs each test
+//! that many times as long, VIMELOSA_TEST_SEED draws other tickets.
+
+#[path = "../generator/mod.rs"]
+mod generator;
+mod guarded;
+mod host_call;
+#[path = "../independent/mod.rs"]
+mod independent;
+mod process;
+mod program_one;
+mod program_two;
+#[path = "../vector_files/mod.rs"]
+mod vector_files;
+
+use independent::graph::Graph;
+
+/// The image of a graph that has one.
+fn image(graph: &Graph) -> Vec<u8> {
+    independent::image::image_of(graph).expect("the graph has an image")
+}

@@ -1,0 +1,98 @@
+//! Consistent graphs, small and full.
+
+use super::tickets::{ticket, Ids, MANY, PLENTY};
+use super::Random;
+use crate::independent::fact::*;
+use crate::independent::graph::Graph;
+use crate::independent::insertion::smallest;
+use crate::independent::table::fresh_graph;
+use crate::independent::ticket::{asked_by, changed};
+
+/// What so many tickets leave of a fresh graph, without one that would pass `most` facts.
+pub fn grown(random: &mut Random, ids: &Ids, tickets: usize, most: usize) -> Graph {
+    let mut graph = fresh_graph();
+    for _ in 0..tickets {
+        let asked = asked_by(&ticket(random, ids));
+        match asked.and_then(|asked| changed(&graph, &asked)) {
+            Ok(new) if new.len() <= most => graph = new,
+            _ => {}
+        }
+    }
+    graph
+}
+
+/// A consistent graph of at most so many facts, then up to two taken out or put in, whatever the rules say.
+pub fn disturbed(random: &mut Random, ids: &Ids, most: usize) -> Graph {
+    let mut graph = grown(random, ids, 35, most);
+    for _ in 0..random.below(3) {
+        let facts: Vec<Fact> = graph.facts().collect();
+        if random.is_one_in(2) && !facts.is_empty() {
+            graph.take([random.pick(&facts)]);
+        } else {
+            let [_, kind, a, b, c] = ticket(random, ids);
+            let kind = random.pick(&[kind, DOMAIN, RANGE]);
+            graph.put(Some(fact(kind, a, b, c)).filter(Fact::is_fact));
+        }
+    }
+    graph
+}
+
+/// A consistent graph with the mark in place of one of its ids: the rules hold as before, but it is not made of facts.
+pub fn marked(random: &mut Random, ids: &Ids) -> Graph {
+    let graph = grown(random, ids, 35, 50);
+    let used: Vec<u8> = graph.facts().map(|fact| fact.a).collect();
+    let gone = random.pick(&used);
+    let marked = |id: u8| if id == gone && id != RESOURCE { MARK } else { id };
+    Graph::of(graph.facts().map(|f| fact(f.kind, marked(f.a), marked(f.b), marked(f.c))))
+}
+
+/// A graph of exactly `count` facts, with a tree of classes, properties one under the other, members and values.
+pub fn filled(random: &mut Random, count: usize) -> Graph {
+    let start = grown(random, &MANY, 120, count / 2);
+    let more_classes: Vec<Fact> = (13..20).map(class).collect();
+    let mut graph = smallest(&start, &more_classes).expect("the ids are free");
+    while graph.len() < count {
+        let members = some_members(random, &graph, 1 + (count - graph.len()) / 30);
+        let new = smallest(&graph, &members).expect("a new individual can be in any class");
+        if new.len() <= count {
+            graph = new;
+        } else {
+            graph.put(loose_literal(&graph));
+        }
+    }
+    graph
+}
+
+/// So many members of the graph's classes, of 120 individuals that only these draw.
+fn some_members(random: &mut Random, graph: &Graph, count: usize) -> Vec<Fact> {
+    let classes: Vec<u8> = graph.of_kind(CLASS).map(|fact| fact.a).collect();
+    let mut draw = || member(80 + random.below(120) as u8, random.pick(&classes));
+    (0..count).map(|_| draw()).collect()
+}
+
+/// A literal that the graph does not know: it brings nothing else with it.
+fn loose_literal(graph: &Graph) -> Option<Fact> {
+    let ids = PLENTY.literals.0..=PLENTY.literals.1;
+    ids.map(literal).find(|fact| !graph.has(*fact))
+}
+
+/// Properties one under the other, each with a class of its own, and a value at the lowest one.
+pub fn chain(length: u8) -> Graph {
+    let (classes, properties) = (2, 100);
+    let mut asked = Vec::new();
+    for step in 0..length {
+        let (c, p) = (classes + step, properties + step);
+        asked.extend([property(p), domain(p, c), range(p, c)]);
+        if step > 0 {
+            asked.push(subproperty(p - 1, p));
+        }
+    }
+    asked.push(value(200, 201, properties));
+    smallest(&fresh_graph(), &asked).expect("a chain is consistent")
+}
+
+/// More facts than any table holds: its image has some 58,000 bytes.
+pub fn overlong() -> Graph {
+    let ids = |last: u8| 2..=last;
+    Graph::of(ids(24).flat_map(|a| ids(30).flat_map(move |b| ids(30).map(move |c| value(a, b, c)))))
+}

@@ -1,0 +1,32 @@
+//! A list of tickets on one table.
+
+use super::table::consistent_facts_of;
+use super::ticket::apply;
+
+/// A list is cut into records of so many bytes; what is left at the end is one ticket.
+pub const TICKET_LENGTH: usize = 5;
+
+/// The answer, and how many tickets were accepted and refused.
+#[derive(Clone, Copy, PartialEq, Eq, Debug)]
+pub struct ListAnswer {
+    pub number: u8,
+    pub accepted: usize,
+    pub refused: usize,
+}
+
+/// Runs the tickets in turn and writes the number of each to its answer byte. Refusals 1, 2, 3, 14.
+pub fn apply_list(table: &mut [u32], list: &[u8], answers: &mut [u8]) -> ListAnswer {
+    let tickets = list.chunks(TICKET_LENGTH);
+    let short = (tickets.len() > answers.len()).then_some(14);
+    let refusal = consistent_facts_of(table).err().or(short);
+    if let Some(number) = refusal {
+        return ListAnswer { number, accepted: 0, refused: 0 };
+    }
+    let count = tickets.len();
+    for (ticket, answer) in tickets.zip(answers.iter_mut()) {
+        *answer = apply(table, ticket).number;
+    }
+    let accepted = answers[..count].iter().filter(|number| **number == 0);
+    let accepted = accepted.count();
+    ListAnswer { number: 0, accepted, refused: count - accepted }
+}

@@ -1,0 +1,249 @@
+//! Properties of the independent implementation on random lists of tickets.
+
+mod generator;
+mod independent;
+
+use generator::tickets::{list, ticket, Ids, ALL_IDS, FEW, MANY, SHARED};
+use generator::{graphs, rounds, Random};
+use independent::fact::*;
+use independent::graph::Graph;
+use independent::insertion::smallest;
+use independent::list::{apply_list, ListAnswer};
+use independent::table::{check, facts_of, fresh, MOST_WORDS};
+use independent::ticket::{apply, asked_by, changed, Answer, Asked};
+use independent::{brute, plain, rules};
+
+fn fresh_table(words: usize) -> Vec<u32> {
+    let mut table = vec![0; words];
+    assert_eq!(fresh(&mut table), 0);
+    table
+}
+
+/// One accepted ticket: the words are a consistent table, nothing goes by an insertion, nothing comes by a deletion.
+fn assert_step(old: &[u32], ticket: &[u8], new: &[u32], answer: Answer) {
+    let (before, after) = (facts_of(old).unwrap(), facts_of(new).unwrap());
+    assert_eq!(check(new), 0);
+    assert_eq!(after.len() + answer.removed, before.len() + answer.added);
+    match asked_by(ticket).expect("an accepted ticket is well formed") {
+        Asked::Insert(facts) => {
+            assert!(before.is_part_of(&after) && facts.iter().all(|fact| after.has(*fact)));
+            assert_eq!(answer.removed, 0);
+        }
+        Asked::Delete(fact) => {
+            assert!(after.is_part_of(&before) && !after.has(fact));
+            assert_eq!(answer.added, 0);
+        }
+    }
+}
+
+#[test]
+fn each_ticket_leaves_a_consistent_table() {
+    let mut random = Random::for_test("each_ticket_leaves_a_consistent_table");
+    for round in 0..rounds(240) {
+        let words = random.pick(&[1, 2, 5, 12, 30, 90, MOST_WORDS]);
+        let mut table = fresh_table(words);
+        for ticket in list(&mut random, &ALL_IDS[round % 4], 60).chunks(5) {
+            let old = table.clone();
+            let answer = apply(&mut table, ticket);
+            if answer.number == 0 {
+                assert_step(&old, ticket, &table, answer);
+            } else {
+                assert_eq!((&table, answer), (&old, Answer::refused(answer.number)));
+            }
+        }
+    }
+}
+
+#[test]
+fn a_repeated_ticket_changes_nothing() {
+    let mut random = Random::for_test("a_repeated_ticket_changes_nothing");
+    for round in 0..rounds(60) {
+        let mut table = fresh_table(200);
+        for ticket in list(&mut random, &ALL_IDS[round % 4], 40).chunks(5) {
+            let first = apply(&mut table, ticket);
+            let words = table.clone();
+            let again = Answer::refused(first.number);
+            assert_eq!(apply(&mut table, ticket), again);
+            assert_eq!(table, words);
+        }
+    }
+}
+
+#[test]
+fn every_refusal_and_acceptance_occurs() {
+    let mut random = Random::for_test("every_refusal_and_acceptance_occurs");
+    let mut seen = [0; 12];
+    for round in 0..240 {
+        let mut table = fresh_table(random.pick(&[12, 40, 200]));
+        for ticket in list(&mut random, &ALL_IDS[round % 4], 60).chunks(5) {
+            seen[usize::from(apply(&mut table, ticket).number)] += 1;
+        }
+    }
+    assert!([0, 4, 5, 6, 7, 8, 9, 10, 11].iter().all(|number| seen[*number] > 20), "{seen:?}");
+}
+
+#[test]
+fn the_list_call_is_the_single_calls() {
+    let mut random = Random::for_test("the_list_call_is_the_single_calls");
+    for round in 0..rounds(60) {
+        let list = list(&mut random, &ALL_IDS[round % 4], 40);
+        let (mut single, mut whole) = (fresh_table(100), fresh_table(100));
+        let single_answers = list.chunks(5).map(|ticket| apply(&mut single, ticket).number);
+        let mut numbers: Vec<u8> = single_answers.collect();
+        let accepted = numbers.iter().filter(|number| **number == 0).count();
+        let refused = numbers.len() - accepted;
+        numbers.extend([77; 3]);
+        let mut answers = vec![77; numbers.len()];
+        let answer = apply_list(&mut whole, &list, &mut answers);
+        assert_eq!(answer, ListAnswer { number: 0, accepted, refused });
+        assert_eq!((single, numbers), (whole, answers));
+    }
+}
+
+#[test]
+fn the_rules_agree_with_their_plain_form() {
+    let mut random = Random::for_test("the_rules_agree_with_their_plain_form");
+    let mut consistent = 0;
+    let count = rounds(600);
+    for round in 0..count {
+        let graph = graphs::disturbed(&mut random, &[SHARED, FEW][round % 2], 50);
+        let found = rules::is_consistent(&graph);
+        assert_eq!(found, plain::is_consistent(&graph), "{graph:?}");
+        consistent += usize::from(found);
+    }
+    assert!(consistent > count / 5 && consistent < count * 4 / 5, "{consistent} of {count}");
+}
+
+/// Graphs each one fact away from a consistent one that has facts of every kind.
+fn one_fact_off() -> Vec<Graph> {
+    let more = [property(110), domain(110, 2), range(110, MARK), value(200, 220, 110)];
+    let whole = smallest(&graphs::chain(3), &more).unwrap();
+    let clashing = [
+        property(2),
+        individual(2),
+        individual(100),
+        literal(2),
+        domain(100, 4),
+        range(100, 4),
+        subclass(4, 2),
+        subproperty(102, 100),
+        subproperty(110, 100),
+    ];
+    let fewer = whole.facts().map(|fact| whole.without(fact));
+    let further = clashing.iter().map(|fact| Graph::of(whole.facts().chain([*fact])));
+    fewer.chain(further).collect()
+}
+
+#[test]
+fn every_rule_is_broken_by_some_graph() {
+    let mut broken = [0; 105];
+    for graph in one_fact_off() {
+        assert_eq!(rules::is_consistent(&graph), plain::is_consistent(&graph), "{graph:?}");
+        rules::each_demand(&graph, &mut |demand| {
+            broken[usize::from(demand.rule)] += usize::from(!demand.is_met(&graph));
+        });
+    }
+    for rule in (4..=27).chain(101..=104) {
+        assert!(broken[rule] > 0, "rule {rule} was never broken");
+    }
+}
+
+#[test]
+fn an_insertion_is_minimal() {
+    let mut random = Random::for_test("an_insertion_is_minimal");
+    let mut tried = 0;
+    while tried < rounds(400) {
+        let graph = graphs::grown(&mut random, &FEW, 20, 40);
+        let Ok(Asked::Insert(facts)) = asked_by(&ticket(&mut random, &FEW)) else {
+            continue;
+        };
+        let Ok(new) = changed(&graph, &Asked::Insert(facts.clone())) else {
+            continue;
+        };
+        let added = new.count_beyond(&graph);
+        if added > 0 && added <= 14 && new.len() <= 64 {
+            assert!(brute::is_minimal(&graph, &facts, &new), "{graph:?} {facts:?}");
+            tried += 1;
+        }
+    }
+}
+
+/// The asked facts of an insertion that would bring this fact, if the larger graph has one.
+fn asked_for(fact: Fact, larger: &Graph) -> Vec<Fact> {
+    let ends = [DOMAIN, RANGE].map(|kind| larger.of_first(kind, fact.a).next());
+    match fact.kind {
+        PROPERTY => [Some(fact), ends[0], ends[1]].into_iter().flatten().collect(),
+        _ => vec![fact],
+    }
+}
+
+#[test]
+fn an_insertion_is_within_every_consistent_graph_that_holds_it() {
+    let mut random = Random::for_test("an_insertion_is_within");
+    for _ in 0..rounds(60) {
+        let graph = graphs::grown(&mut random, &MANY, 30, 200);
+        let mut larger = graph.clone();
+        for _ in 0..25 {
+            let asked = asked_by(&ticket(&mut random, &MANY));
+            if let Ok(Asked::Insert(facts)) = asked {
+                larger = changed(&larger, &Asked::Insert(facts)).unwrap_or(larger);
+            }
+        }
+        for fact in larger.facts().filter(|f| f.kind != DOMAIN && f.kind != RANGE) {
+            let asked = Asked::Insert(asked_for(fact, &larger));
+            match changed(&graph, &asked) {
+                Ok(new) => assert!(new.is_part_of(&larger), "{fact:?}"),
+                Err(refusal) => assert_eq!(refusal, 9, "{fact:?}"),
+            }
+        }
+    }
+}
+
+/// The same tickets in another order, in which each property is made before it is used.
+fn rearranged(random: &mut Random, tickets: &[[u8; 5]]) -> Vec<[u8; 5]> {
+    let mut order = tickets.to_vec();
+    random.shuffle(&mut order);
+    let mut placed: Vec<[u8; 5]> = Vec::new();
+    while !order.is_empty() {
+        let is_known = |p: u8, placed: &[[u8; 5]]| placed.iter().any(|t| t[1] == PROPERTY && t[2] == p);
+        let next = order.iter().position(|t| match t[1] {
+            SUBPROPERTY => is_known(t[2], &placed) && is_known(t[3], &placed),
+            VALUE => is_known(t[4], &placed),
+            _ => true,
+        });
+        placed.push(order.remove(next.expect("each property used is made")));
+    }
+    placed
+}
+
+#[test]
+fn rearranged_insertions_end_in_the_same_words() {
+    let mut random = Random::for_test("rearranged_insertions_end_in_the_same_words");
+    for round in 0..rounds(80) {
+        let ids = Ids { deletions: usize::MAX, ..ALL_IDS[round % 4] };
+        let mut table = fresh_table(300);
+        let mut accepted = Vec::new();
+        for _ in 0..40 {
+            let ticket = ticket(&mut random, &ids);
+            if apply(&mut table, &ticket).number == 0 {
+                accepted.push(ticket);
+            }
+        }
+        // A table without a word to spare: no order needs more room on the way.
+        let mut other = fresh_table(facts_of(&table).unwrap().len());
+        for ticket in rearranged(&mut random, &accepted) {
+            assert_eq!(apply(&mut other, &ticket).number, 0);
+        }
+        assert_eq!(facts_of(&other), facts_of(&table));
+    }
+}
+
+#[test]
+fn smallest_of_a_chain_goes_all_the_way_up() {
+    let graph = graphs::chain(12);
+    for step in 0..12 {
+        assert!(graph.has(value(200, 201, 100 + step)) && graph.has(member(201, 2 + step)));
+    }
+    let more = smallest(&graph, &[member(202, 2)]).unwrap();
+    assert_eq!(more.count_beyond(&graph), 1 + 1 + 12);
+}
