@@ -2,17 +2,17 @@
 -- changes nothing. Assumes nothing.
 use Prim.Native.Nat.{ℕ, zero, suc, _≤_, _<_}
 use mathlib.Core.Path.{_≡_, refl, sym, ap, subst, _∙_}
-use mathlib.Core.Bool.{Bool, true, false, _&&_}
+use mathlib.Core.Bool.{Bool, true, false, not, _&&_}
 use mathlib.Core.Logic.{_⊎_, inl, inr, ⊎-elim}
-use mathlib.Core.List.{List, []}
+use mathlib.Core.List.{List, [], map}
 use native.Mathlib.Omega.{arith}
-use lib.Dec.{T}
+use lib.Dec.{T, eqb, ltb→lt}
 use lib.ListN.{length}
 use Rattle.rdfs.specs.Numbers.{Numbers, Sound, ticketKinds}
 use Rattle.rdfs.specs.Lists.{_∈_, _⊆_}
 use Rattle.rdfs.specs.Facts.{Fact, pr, Graph, graph, _⊑_}
 use Rattle.rdfs.specs.Consistency.{Consistent, Smallest}
-use Rattle.rdfs.specs.Words.{filled, facts, words, padded}
+use Rattle.rdfs.specs.Words.{word, filled, facts, words, padded}
 use Rattle.rdfs.specs.Clashes.{clashes}
 use Rattle.rdfs.specs.Insertion.{insertion}
 use Rattle.rdfs.specs.Deletion.{deletion}
@@ -25,11 +25,13 @@ use Rattle.rdfs.proofs.Allowed.{Allowed}
 use Rattle.rdfs.proofs.Tables.{facts-padded, words-sub}
 use Rattle.rdfs.proofs.LaidOut.{laid-words}
 use Rattle.rdfs.proofs.Counts.{besides-none}
+use Rattle.rdfs.proofs.Sorted.{sort-ascending, sub-length}
+use Rattle.rdfs.proofs.Filters.{filter-split}
 use Rattle.rdfs.proofs.InsertionSmallest.{insertion-smallest, insertion-clash, insertion-allowed}
 use Rattle.rdfs.proofs.Possible.{Possible}
 use Rattle.rdfs.proofs.TicketTests.{known-kind, uses-known, asked-allowed}
 use Rattle.rdfs.proofs.AskedSeeds.{asked-seeds}
-use Rattle.rdfs.proofs.Refusals.{Formed, new, Passed, passed, refused-10, refuse-10}
+use Rattle.rdfs.proofs.Refusals.{Formed, new, Passed, passed, refused-10, refuse-10, refused-11}
 use Rattle.rdfs.proofs.Steps.{table-sane, table-allowed, step-number, accepted-leaves, left-table, room-fits}
 
 -- Two graphs with the same facts are the smallest alike.
@@ -84,6 +86,16 @@ module _ (N : Numbers) (s : Sound N) (w bytes : List ℕ) (t : Table N w) (i : T
         (both-and (inserts (decoded bytes)) (clashes (new N w bytes)) i (subst (λ L. T (clashes L)) (sym new-is) c))) in
         let m = free-smallest u clash-refused in
         (graph inserted, m .consistent, m .holds-table, m .holds-asked)
+
+  -- Refused with 11: no table of as many words holds a consistent graph with the table's facts and the asked ones.
+  pub eleven-impossible : step N w bytes .number ≡ 11 → (v : List ℕ) → Table N v → length v ≡ length w → _⊑_ (graph K) (graph (facts N v)) → _⊑_ (graph ask) (graph (facts N v)) → ⊥
+  eleven-impossible e v tv same holds-table holds-asked =
+      let r = refused-11 N w bytes (sym (step-number N w bytes) ∙ e) in
+      let free : T (clashes inserted) → ⊥ = λ c. r .3 (both-and (inserts (decoded bytes)) (clashes (new N w bytes)) i (subst (λ L. T (clashes L)) (sym new-is) c)) in
+      let within : inserted ⊆ facts N v = free-smallest (r .1) (r .2) free .least (graph (facts N v)) (tv .consistent) holds-table holds-asked in
+      let many : length w < length (words N inserted) = subst (λ L. length w < length (words N L)) new-is (ltb→lt (length w) (length (words N (new N w bytes))) (r .4)) in
+      let few : length (words N inserted) ≤ length (words N (facts N v)) = sub-length (words N (facts N v)) (words N inserted) (sort-ascending (map (word (N .base)) (facts N v))) (sort-ascending (map (word (N .base)) inserted)) (words-sub N inserted (facts N v) within) in
+      omega (arith, same, many, few, filter-split (λ x. not (eqb x 0)) v, ap length (laid-words N v (tv .laid)))
 
   -- Accepted.
   module _ (e : step N w bytes .number ≡ 0) where

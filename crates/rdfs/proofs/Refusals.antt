@@ -113,3 +113,15 @@ module _ (N : Numbers) (w bytes : List ℕ) where
 
   pub refuse-10 : Sane N w → Formed N bytes → (T (unknownProperty old given) → ⊥) → T (clashing new given) → refusal ≡ 10
   refuse-10 s f k c = to-9 s f ∙ (pass-link (unknownProperty old given) 9 _ k ∙ stop-link (clashing new given) 10 _ c)
+
+  -- 11 is answered only if the last test is the first that holds.
+  pub refused-11 : refusal ≡ 11 → Sane N w × Formed N bytes × (T (unknownProperty old given) → ⊥) × (T (clashing new given) → ⊥) × T (tooMany N w new)
+  refused-11 e =
+      let p = past-8 11 (inr (inr (inr refl))) e in
+      let p9 = passed-link (unknownProperty old given) 9 _ 11 (omega arith) (p .2) in
+      let p10 = passed-link (clashing new given) 10 _ 11 (omega arith) (p9 .1) in
+      (p .0, p .1, p9 .0, p10 .0, last (tooMany N w new) (p10 .1))
+    where
+      last : (t : Bool) → orElse t 11 0 ≡ 11 → T t
+      last true h = tt
+      last false h = absurd (omega (arith, h))

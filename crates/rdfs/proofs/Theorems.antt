@@ -10,7 +10,7 @@ use lib.Dec.{T}
 use lib.ListN.{length}
 use Rattle.rdfs.specs.Numbers.{Numbers, Sound, product, arity}
 use Rattle.rdfs.specs.Lists.{_∈_, _⊆_}
-use Rattle.rdfs.specs.Facts.{Fact, cl, pr, ind, lit, csub, psub, dom, rng, ci, pi, kind, ids, graph}
+use Rattle.rdfs.specs.Facts.{Fact, cl, pr, ind, lit, csub, psub, dom, rng, ci, pi, kind, ids, graph, _⊑_}
 use Rattle.rdfs.specs.Consistency.{Consistent, Smallest, Largest, keeps}
 use Rattle.rdfs.specs.Words.{facts}
 use Rattle.rdfs.specs.Clashes.{clashes, consistent?}
@@ -28,7 +28,7 @@ use Rattle.rdfs.proofs.TicketTests.{asked-allowed}
 use Rattle.rdfs.proofs.AskedSeeds.{asked-seeds}
 use Rattle.rdfs.proofs.Refusals.{Formed}
 use Rattle.rdfs.proofs.Steps.{Kept, refused-keeps}
-use Rattle.rdfs.proofs.InsertionSteps.{accepted-smallest, refused-impossible, impossible-refused}
+use Rattle.rdfs.proofs.InsertionSteps.{accepted-smallest, refused-impossible, impossible-refused, eleven-impossible}
 use Rattle.rdfs.proofs.DeletionSteps.{deletion-accepted, accepted-largest, repeated-deletion}
 use Rattle.rdfs.proofs.Within.{unchanged, repeated-insertion}
 use Rattle.rdfs.proofs.AfterEach.{After, after-each}
@@ -67,6 +67,11 @@ module _ (N : Numbers) (s : Sound N) (w bytes : List ℕ) (t : Table N w) where
       → (step N w bytes .number ≡ 10 → Possible (graph (facts N w)) (graph (asked (decoded bytes))) → ⊥)
       × ((step N w bytes .number ≡ 10 → ⊥) → Possible (graph (facts N w)) (graph (asked (decoded bytes))))
   ten-is-exact i f u = (refused-impossible N s w bytes t i f, impossible-refused N s w bytes t i f u)
+
+  -- An insertion is refused with 11 only if no table of as many words holds a consistent graph with the table's facts and the asked ones.
+  pub eleven-only-if-full : T (inserts (decoded bytes)) → step N w bytes .number ≡ 11
+      → (v : List ℕ) → Table N v → length v ≡ length w → _⊑_ (graph (facts N w)) (graph (facts N v)) → _⊑_ (graph (asked (decoded bytes))) (graph (facts N v)) → ⊥
+  eleven-only-if-full i = eleven-impossible N s w bytes t i
 
   -- A deletion past refusal 8 is never refused, and leaves the largest consistent part of its family without the fact.
   pub deletion-is-largest : T (deletes (decoded bytes)) → Formed N bytes

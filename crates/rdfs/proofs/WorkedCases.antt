@@ -11,46 +11,34 @@ use Rattle.rdfs.specs.Insertion.{closure, insertion}
 use Rattle.rdfs.specs.Deletion.{goes, deletion}
 use Rattle.rdfs.specs.Register.{step, run, register, Done, Answer}
 
--- The database of the paper's Figs. 1 and 2, ticket by ticket, and the same with the class tree drawn last, after the members.
+-- A part of the database of the paper's Figs. 1 and 2, ticket by ticket, and the same with the class tree drawn last, after the members.
 abbrev treeFirst : List ℕ
 treeFirst =
     1 ∷ 5 ∷ 3 ∷ 2 ∷ 0 ∷
     1 ∷ 5 ∷ 4 ∷ 3 ∷ 0 ∷
-    1 ∷ 5 ∷ 5 ∷ 3 ∷ 0 ∷
     1 ∷ 5 ∷ 7 ∷ 6 ∷ 0 ∷
-    1 ∷ 5 ∷ 8 ∷ 6 ∷ 0 ∷
     1 ∷ 2 ∷ 10 ∷ 2 ∷ 6 ∷
-    1 ∷ 2 ∷ 11 ∷ 5 ∷ 7 ∷
+    1 ∷ 2 ∷ 11 ∷ 4 ∷ 7 ∷
     1 ∷ 6 ∷ 11 ∷ 10 ∷ 0 ∷
-    1 ∷ 9 ∷ 20 ∷ 4 ∷ 0 ∷
-    1 ∷ 9 ∷ 21 ∷ 4 ∷ 0 ∷
-    1 ∷ 10 ∷ 22 ∷ 23 ∷ 11 ∷
-    1 ∷ 9 ∷ 24 ∷ 8 ∷ 0 ∷ []
+    1 ∷ 10 ∷ 22 ∷ 23 ∷ 11 ∷ []
 
 abbrev treeLast : List ℕ
 treeLast =
-    1 ∷ 9 ∷ 24 ∷ 8 ∷ 0 ∷
-    1 ∷ 9 ∷ 20 ∷ 4 ∷ 0 ∷
-    1 ∷ 9 ∷ 21 ∷ 4 ∷ 0 ∷
     1 ∷ 2 ∷ 10 ∷ 2 ∷ 6 ∷
-    1 ∷ 2 ∷ 11 ∷ 5 ∷ 7 ∷
+    1 ∷ 2 ∷ 11 ∷ 4 ∷ 7 ∷
     1 ∷ 10 ∷ 22 ∷ 23 ∷ 11 ∷
-    1 ∷ 5 ∷ 5 ∷ 3 ∷ 0 ∷
     1 ∷ 5 ∷ 4 ∷ 3 ∷ 0 ∷
-    1 ∷ 5 ∷ 8 ∷ 6 ∷ 0 ∷
+    1 ∷ 5 ∷ 3 ∷ 2 ∷ 0 ∷
     1 ∷ 5 ∷ 7 ∷ 6 ∷ 0 ∷
-    1 ∷ 6 ∷ 11 ∷ 10 ∷ 0 ∷
-    1 ∷ 5 ∷ 3 ∷ 2 ∷ 0 ∷ []
+    1 ∷ 6 ∷ 11 ∷ 10 ∷ 0 ∷ []
 
--- Its 54 words: as a table they leave no word free.
+-- Its 33 words: as a table they leave no word free.
 abbrev figure : List ℕ
 figure =
-    0x01000000 ∷ 0x01020000 ∷ 0x01030000 ∷ 0x01040000 ∷ 0x01050000 ∷ 0x01060000 ∷ 0x01070000 ∷ 0x01080000 ∷ 0x020a0000 ∷
-    0x020b0000 ∷ 0x03140000 ∷ 0x03150000 ∷ 0x03160000 ∷ 0x03170000 ∷ 0x03180000 ∷ 0x05020000 ∷ 0x05030000 ∷ 0x05030200 ∷
-    0x05040000 ∷ 0x05040200 ∷ 0x05040300 ∷ 0x05050000 ∷ 0x05050200 ∷ 0x05050300 ∷ 0x05060000 ∷ 0x05070000 ∷ 0x05070600 ∷
-    0x05080000 ∷ 0x05080600 ∷ 0x060b0a00 ∷ 0x070a0200 ∷ 0x070b0500 ∷ 0x080a0600 ∷ 0x080b0700 ∷ 0x09140000 ∷ 0x09140200 ∷
-    0x09140300 ∷ 0x09140400 ∷ 0x09150000 ∷ 0x09150200 ∷ 0x09150300 ∷ 0x09150400 ∷ 0x09160000 ∷ 0x09160200 ∷ 0x09160300 ∷
-    0x09160500 ∷ 0x09170000 ∷ 0x09170600 ∷ 0x09170700 ∷ 0x09180000 ∷ 0x09180600 ∷ 0x09180800 ∷ 0x0a16170a ∷ 0x0a16170b ∷ []
+    0x01000000 ∷ 0x01020000 ∷ 0x01030000 ∷ 0x01040000 ∷ 0x01060000 ∷ 0x01070000 ∷ 0x020a0000 ∷ 0x020b0000 ∷ 0x03160000 ∷
+    0x03170000 ∷ 0x05020000 ∷ 0x05030000 ∷ 0x05030200 ∷ 0x05040000 ∷ 0x05040200 ∷ 0x05040300 ∷ 0x05060000 ∷ 0x05070000 ∷
+    0x05070600 ∷ 0x060b0a00 ∷ 0x070a0200 ∷ 0x070b0400 ∷ 0x080a0600 ∷ 0x080b0700 ∷ 0x09160000 ∷ 0x09160200 ∷ 0x09160300 ∷
+    0x09160400 ∷ 0x09170000 ∷ 0x09170600 ∷ 0x09170700 ∷ 0x0a16170a ∷ 0x0a16170b ∷ []
 
 -- W3C rdfs07: the object of a value is in the property's range, the subject is not.
 abbrev rangeOfObject : List ℕ
@@ -76,7 +64,7 @@ cycleThroughBoth =
 abbrev literalGone : List ℕ
 literalGone =
     1 ∷ 2 ∷ 13 ∷ 2 ∷ 1 ∷
-    1 ∷ 10 ∷ 20 ∷ 30 ∷ 13 ∷
+    1 ∷ 10 ∷ 22 ∷ 30 ∷ 13 ∷
     2 ∷ 4 ∷ 30 ∷ 0 ∷ 0 ∷ []
 
 abbrev chainCut : List ℕ
@@ -91,35 +79,35 @@ onFigure t = let a : Answer = step product figure t in a .number ∷ a .added �
 
 abbrev single : List (List ℕ)
 single =
-    (2 ∷ 1 ∷ 5 ∷ 0 ∷ 0 ∷ []) ∷  -- a class, its members, and the property with it as domain
+    (2 ∷ 1 ∷ 4 ∷ 0 ∷ 0 ∷ []) ∷  -- a class, its members, and the property with it as domain
     (2 ∷ 1 ∷ 6 ∷ 0 ∷ 0 ∷ []) ∷  -- a class that is a range
     (2 ∷ 2 ∷ 10 ∷ 0 ∷ 0 ∷ []) ∷  -- a property
     (2 ∷ 3 ∷ 23 ∷ 0 ∷ 0 ∷ []) ∷  -- an individual that is a value
-    (2 ∷ 5 ∷ 4 ∷ 2 ∷ 0 ∷ []) ∷  -- a class link, and the link of the class between
+    (2 ∷ 5 ∷ 4 ∷ 2 ∷ 0 ∷ []) ∷  -- a class link, the link of the class between, and the property link that needs it
     (2 ∷ 5 ∷ 7 ∷ 6 ∷ 0 ∷ []) ∷  -- a class link, and the property link that needs it
     (2 ∷ 6 ∷ 11 ∷ 10 ∷ 0 ∷ []) ∷  -- a property link; the values that it carried stay
-    (2 ∷ 9 ∷ 20 ∷ 3 ∷ 0 ∷ []) ∷  -- a member leaves a class and the class below
+    (2 ∷ 9 ∷ 22 ∷ 3 ∷ 0 ∷ []) ∷  -- a member leaves a class and the class below, and the value by that
     (2 ∷ 9 ∷ 22 ∷ 2 ∷ 0 ∷ []) ∷  -- a member leaves a domain, and its values go
     (2 ∷ 9 ∷ 23 ∷ 6 ∷ 0 ∷ []) ∷  -- a member leaves a range
     (2 ∷ 10 ∷ 22 ∷ 23 ∷ 10 ∷ []) ∷  -- a value, and that of the sub-property
-    (1 ∷ 9 ∷ 20 ∷ 3 ∷ 0 ∷ []) ∷  -- a repeat on the full table
+    (1 ∷ 9 ∷ 22 ∷ 3 ∷ 0 ∷ []) ∷  -- a repeat on the full table
     (1 ∷ 9 ∷ 4 ∷ 4 ∷ 0 ∷ []) ∷  -- a clash on the full table
     (1 ∷ 1 ∷ 9 ∷ 0 ∷ 0 ∷ []) ∷  -- two facts more on the full table
     []
 
 abbrev answers : List (List ℕ)
 answers =
-    (0 ∷ 0 ∷ 10 ∷ []) ∷ (0 ∷ 0 ∷ 11 ∷ []) ∷ (0 ∷ 0 ∷ 5 ∷ []) ∷ (0 ∷ 0 ∷ 6 ∷ []) ∷ (0 ∷ 0 ∷ 2 ∷ []) ∷ (0 ∷ 0 ∷ 2 ∷ []) ∷ (0 ∷ 0 ∷ 1 ∷ []) ∷ (0 ∷ 0 ∷ 2 ∷ []) ∷ (0 ∷ 0 ∷ 5 ∷ []) ∷ (0 ∷ 0 ∷ 4 ∷ []) ∷ (0 ∷ 0 ∷ 2 ∷ []) ∷ (0 ∷ 0 ∷ 0 ∷ []) ∷ (10 ∷ 0 ∷ 0 ∷ []) ∷ (11 ∷ 0 ∷ 0 ∷ []) ∷ []
+    (0 ∷ 0 ∷ 10 ∷ []) ∷ (0 ∷ 0 ∷ 9 ∷ []) ∷ (0 ∷ 0 ∷ 5 ∷ []) ∷ (0 ∷ 0 ∷ 6 ∷ []) ∷ (0 ∷ 0 ∷ 3 ∷ []) ∷ (0 ∷ 0 ∷ 2 ∷ []) ∷ (0 ∷ 0 ∷ 1 ∷ []) ∷ (0 ∷ 0 ∷ 3 ∷ []) ∷ (0 ∷ 0 ∷ 5 ∷ []) ∷ (0 ∷ 0 ∷ 4 ∷ []) ∷ (0 ∷ 0 ∷ 2 ∷ []) ∷ (0 ∷ 0 ∷ 0 ∷ []) ∷ (10 ∷ 0 ∷ 0 ∷ []) ∷ (11 ∷ 0 ∷ 0 ∷ []) ∷ []
 
 pub worked :
-    (register product (fresh product 54) treeFirst ≡ record { numbers = 0 ∷ 0 ∷ 0 ∷ 0 ∷ 0 ∷ 0 ∷ 0 ∷ 0 ∷ 0 ∷ 0 ∷ 0 ∷ 0 ∷ []; counts = 5 ∷ 0 ∷ 4 ∷ 0 ∷ 4 ∷ 0 ∷ 5 ∷ 0 ∷ 3 ∷ 0 ∷ 3 ∷ 0 ∷ 3 ∷ 0 ∷ 1 ∷ 0 ∷ 5 ∷ 0 ∷ 5 ∷ 0 ∷ 11 ∷ 0 ∷ 4 ∷ 0 ∷ []; table = figure })
-    × (register product (fresh product 54) treeLast ≡ record { numbers = 0 ∷ 0 ∷ 0 ∷ 0 ∷ 0 ∷ 0 ∷ 0 ∷ 0 ∷ 0 ∷ 0 ∷ 0 ∷ 0 ∷ []; counts = 5 ∷ 0 ∷ 5 ∷ 0 ∷ 3 ∷ 0 ∷ 7 ∷ 0 ∷ 7 ∷ 0 ∷ 7 ∷ 0 ∷ 4 ∷ 0 ∷ 3 ∷ 0 ∷ 2 ∷ 0 ∷ 2 ∷ 0 ∷ 4 ∷ 0 ∷ 4 ∷ 0 ∷ []; table = figure })
+    (register product (fresh product 33) treeFirst ≡ record { numbers = 0 ∷ 0 ∷ 0 ∷ 0 ∷ 0 ∷ 0 ∷ 0 ∷ []; counts = 5 ∷ 0 ∷ 4 ∷ 0 ∷ 5 ∷ 0 ∷ 3 ∷ 0 ∷ 3 ∷ 0 ∷ 1 ∷ 0 ∷ 11 ∷ 0 ∷ []; table = figure })
+    × (register product (fresh product 33) treeLast ≡ record { numbers = 0 ∷ 0 ∷ 0 ∷ 0 ∷ 0 ∷ 0 ∷ 0 ∷ []; counts = 7 ∷ 0 ∷ 7 ∷ 0 ∷ 7 ∷ 0 ∷ 4 ∷ 0 ∷ 3 ∷ 0 ∷ 2 ∷ 0 ∷ 2 ∷ 0 ∷ []; table = figure })
     × (map onFigure single ≡ answers)
-    × (register product (padded 64 figure) literalGone .counts ≡ 3 ∷ 0 ∷ 2 ∷ 0 ∷ 0 ∷ 2 ∷ [])
-    × (register product (padded 64 figure) chainCut .counts ≡ 3 ∷ 0 ∷ 3 ∷ 0 ∷ 0 ∷ 2 ∷ [])
+    × (register product (padded 44 figure) literalGone .counts ≡ 3 ∷ 0 ∷ 2 ∷ 0 ∷ 0 ∷ 2 ∷ [])
+    × (register product (padded 44 figure) chainCut .counts ≡ 3 ∷ 0 ∷ 3 ∷ 0 ∷ 0 ∷ 2 ∷ [])
     × (register product (fresh product 12) rangeOfObject .table ≡ 0x01000000 ∷ 0x01020000 ∷ 0x02030000 ∷ 0x03040000 ∷ 0x03050000 ∷ 0x05020000 ∷ 0x07030000 ∷ 0x08030200 ∷ 0x09040000 ∷ 0x09050000 ∷ 0x09050200 ∷ 0x0a040503 ∷ [])
     × (register product (fresh product 18) bothLinks .table ≡ 0x01000000 ∷ 0x01040000 ∷ 0x01050000 ∷ 0x01060000 ∷ 0x01070000 ∷ 0x02020000 ∷ 0x02030000 ∷ 0x05040000 ∷ 0x05050000 ∷ 0x05050400 ∷ 0x05060000 ∷ 0x05070000 ∷ 0x05070600 ∷ 0x06030200 ∷ 0x07020400 ∷ 0x07030500 ∷ 0x08020600 ∷ 0x08030700 ∷ [])
-    × (register product (fresh product 64) cycleThroughBoth .numbers ≡ 0 ∷ 0 ∷ 0 ∷ 0 ∷ 10 ∷ [])
+    × (register product (fresh product 32) cycleThroughBoth .numbers ≡ 0 ∷ 0 ∷ 0 ∷ 0 ∷ 10 ∷ [])
     × (register product (fresh product 4) (1 ∷ 1 ∷ 2 ∷ 0 ∷ 0 ∷ 1 ∷ 1 ∷ 3 ∷ []) .numbers ≡ 0 ∷ 4 ∷ [])
 unfolding by18 by20 by22 by23 by24 by25 by26 by27 needs bars unequal existsFor consistent? closure insertion goes deletion step run register
 worked = (refl, refl, refl, refl, refl, refl, refl, refl, refl)

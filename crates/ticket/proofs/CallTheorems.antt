@@ -6,9 +6,10 @@ use mathlib.Core.Bool.{Bool, true, false}
 use mathlib.Core.Logic.{_⊎_, inl, inr, ⊎-elim}
 use mathlib.Core.List.{List, [], _∷_}
 use lib.Dec.{T}
+use lib.ListN.{length}
 use Rattle.rdfs.specs.Numbers.{Numbers, product}
 use Rattle.rdfs.specs.Lists.{_∈_, _⊆_}
-use Rattle.rdfs.specs.Facts.{Fact, graph}
+use Rattle.rdfs.specs.Facts.{Fact, graph, _⊑_}
 use Rattle.rdfs.specs.Consistency.{Smallest, Largest, keeps}
 use Rattle.rdfs.specs.Words.{facts}
 use Rattle.rdfs.specs.Tickets as defs
@@ -19,7 +20,7 @@ use Rattle.rdfs.proofs.TicketTests.{known-operation}
 use Rattle.rdfs.proofs.Possible.{Possible}
 use Rattle.rdfs.proofs.AfterEach.{After, after}
 use Rattle.rdfs.proofs.Within.{unchanged}
-use Rattle.rdfs.proofs.Theorems.{product-sound, insertion-is-smallest, ten-is-exact, deletion-is-largest, repeat-changes-nothing}
+use Rattle.rdfs.proofs.Theorems.{product-sound, insertion-is-smallest, ten-is-exact, eleven-only-if-full, deletion-is-largest, repeat-changes-nothing}
 use Rattle.ticket.specs.Answered.{Answered}
 use Rattle.ticket.specs.declared.Applied.{Applied}
 
@@ -69,6 +70,11 @@ module _ (w b v : List ℕ) (r : Applied) (t : Table product w) (a : Answered r 
       → (r .answer ≡ 10 → Possible (graph (facts product w)) (graph (defs.asked (defs.decoded b))) → ⊥)
       × ((r .answer ≡ 10 → ⊥) → Possible (graph (facts product w)) (graph (defs.asked (defs.decoded b))))
   call-ten i f u = let x = ten-is-exact product product-sound w b t i f u in ((λ e. x .0 (sym (a .number) ∙ e)), (λ n. x .1 (λ e. n (a .number ∙ e))))
+
+  -- 11 only if no table of as many words holds a consistent graph with the table's facts and the asked ones.
+  pub call-eleven : T (defs.inserts (defs.decoded b)) → r .answer ≡ 11
+      → (u : List ℕ) → Table product u → length u ≡ length w → _⊑_ (graph (facts product w)) (graph (facts product u)) → _⊑_ (graph (defs.asked (defs.decoded b))) (graph (facts product u)) → ⊥
+  call-eleven i e = eleven-only-if-full product product-sound w b t i (sym (a .number) ∙ e)
 
   -- A deletion past refusal 8 is accepted and leaves the largest consistent part of its family without the fact.
   pub call-largest : T (defs.deletes (defs.decoded b)) → Formed product b
