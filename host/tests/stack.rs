@@ -1,0 +1,116 @@
+//! The host call on a thread with a small stack: the tickets whose side effects nest deepest. A side effect is put in
+//! with side effects of its own, so the depth is that of the longest way through a graph: a chain of links below the new
+//! link, then a chain above it, where each step goes to the nearest id first.
+
+use std::thread;
+use vimelosa_host::{call_raw, Graph, Range, Ticket, LONGEST_IMAGE};
+
+/// The stack that a thread is to have. The deepest call known takes two thirds of it.
+const STACK: usize = 64 * 1024;
+
+const FIRST: u8 = 20;
+const ACCEPTED: u64 = 0;
+const FULL: u64 = 11;
+
+/// Two chains with the link from the top of the lower to the bottom of the upper left out. Ids rise with the distance
+/// from that link, so that the nearest comes first.
+struct Chains {
+    lower: Vec<u8>,
+    upper: Vec<u8>,
+}
+
+impl Chains {
+    fn of_lengths(lower: u8, upper: u8) -> Chains {
+        let middle = FIRST + lower;
+        Chains { lower: (FIRST..middle).collect(), upper: (middle..middle + upper).collect() }
+    }
+
+    /// The links of the chains, each from an id to the one over it.
+    fn links(&self) -> Vec<(u8, u8)> {
+        let down = self.lower.windows(2).map(|pair| (pair[1], pair[0]));
+        let up = self.upper.windows(2).map(|pair| (pair[0], pair[1]));
+        down.chain(up).collect()
+    }
+
+    /// The link that joins them.
+    fn joint(&self) -> (u8, u8) {
+        (self.lower[0], self.upper[0])
+    }
+
+    fn bottom(&self) -> u8 {
+        *self.lower.last().expect("a chain has an id")
+    }
+}
+
+fn run(graph: &mut Graph, tickets: impl IntoIterator<Item = Ticket>) {
+    for ticket in tickets {
+        graph.apply(ticket).expect("there is room");
+    }
+}
+
+fn class_chains(chains: &Chains) -> Graph {
+    let mut graph = Graph::fresh();
+    run(&mut graph, chains.links().into_iter().map(|(low, high)| Ticket::insert_subclass(low, high)));
+    graph
+}
+
+fn property_chains(chains: &Chains) -> Graph {
+    let mut graph = Graph::fresh();
+    let properties = chains.lower.iter().chain(&chains.upper);
+    run(&mut graph, properties.map(|property| Ticket::insert_property(*property, 0, Range::Class(0))));
+    run(&mut graph, chains.links().into_iter().map(|(low, high)| Ticket::insert_subproperty(low, high)));
+    run(&mut graph, [Ticket::insert_value(2, 3, chains.bottom())]);
+    graph
+}
+
+/// Calls on a thread with a small stack and on the test's own, and compares the answers and all bytes of the outputs.
+fn call_on_small_stack(graph: &Graph, ticket: Ticket, expected: u64) {
+    let image = graph.image().to_vec();
+    let call = move |output: &mut [u8]| call_raw(&image, &ticket.bytes(), output);
+    let mut output = vec![7; LONGEST_IMAGE];
+    let answer = call(&mut output);
+    assert_eq!(answer & 0xffff, expected);
+    let small = thread::Builder::new().stack_size(STACK).spawn(move || {
+        let mut output = vec![7; LONGEST_IMAGE];
+        (call(&mut output), output)
+    });
+    assert_eq!(small.expect("a thread starts").join().expect("it ends"), (answer, output));
+}
+
+#[test]
+fn class_chains_that_fill_the_table() {
+    let chains = Chains::of_lengths(31, 31);
+    let (low, high) = chains.joint();
+    call_on_small_stack(&class_chains(&chains), Ticket::insert_subclass(low, high), ACCEPTED);
+}
+
+#[test]
+fn class_chains_that_do_not_fit() {
+    for (lower, upper) in [(42, 42), (42, 43), (41, 44), (43, 43), (10, 57), (57, 10)] {
+        let chains = Chains::of_lengths(lower, upper);
+        let (low, high) = chains.joint();
+        call_on_small_stack(&class_chains(&chains), Ticket::insert_subclass(low, high), FULL);
+    }
+}
+
+#[test]
+fn property_chains_that_do_not_fit() {
+    for (lower, upper) in [(41, 41), (41, 40), (39, 39)] {
+        let chains = Chains::of_lengths(lower, upper);
+        let (low, high) = chains.joint();
+        call_on_small_stack(&property_chains(&chains), Ticket::insert_subproperty(low, high), FULL);
+    }
+}
+
+/// A link between properties needs one between their domains, which joins two chains of classes.
+#[test]
+fn class_chains_joined_by_a_property_link() {
+    let chains = Chains::of_lengths(41, 41);
+    let (low, high) = chains.joint();
+    let mut graph = class_chains(&chains);
+    let (p, q) = (150, 151);
+    let member = Ticket::insert_member(200, chains.bottom());
+    let ends = [(p, low), (q, high)].map(|(property, domain)| Ticket::insert_property(property, domain, Range::Class(0)));
+    run(&mut graph, [member].into_iter().chain(ends));
+    call_on_small_stack(&graph, Ticket::insert_subproperty(p, q), FULL);
+}
