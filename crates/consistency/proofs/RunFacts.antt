@@ -1,14 +1,16 @@
 -- The facts of one kind and one first id, by the words of their run. Assumes nothing.
 use Prim.Native.Nat.{ℕ, _+_, _≤_, _<_}
-use mathlib.Core.Path.{_≡_, sym, subst}
-use mathlib.Core.Logic.{_⊎_, inl, inr}
+use mathlib.Core.Path.{_≡_, sym, subst, _∙_}
+use mathlib.Core.Logic.{_⊎_, inl, inr, ⊎-elim}
+use mathlib.Core.Bool.{Bool, true, false}
 use mathlib.Core.List.{List}
 use native.Mathlib.Omega.{arith}
 use lib.ListN.{length}
+use Rattle.table.specs.Answers.{Decides}
 use Rattle.table.specs.Parts.{kindOf, firstOf, secondOf, thirdOf, wordOf}
-use Rattle.consistency.specs.Runs.{runAt, runOf, idCount, at, Has, FactWords, RunStart, Covered, groupOf}
+use Rattle.consistency.specs.Runs.{runAt, runOf, idCount, at, Has, FactWords, Indexed, RunStart, Covered, groupOf}
 use Rattle.consistency.specs.Graphs.{Id, Stands, Inherited, Single, Only}
-use Rattle.consistency.proofs.Places.{compare, first-id}
+use Rattle.consistency.proofs.Places.{split, compare, first-id, words-ascend}
 use Rattle.consistency.proofs.Covering.{run-from, run-past}
 
 -- A word of two ids, by its run and its second id.
@@ -74,6 +76,36 @@ module _ {t : List ℕ} (F : FactWords t) (k a : ℕ) (K : k < 10) (A : Id a) wh
         by-case m h e f (inl p) = absurd (omega (arith, run-from F _ r S m h e .1))
         by-case m h e f (inr (inl p)) = rw p f
         by-case m h e f (inr (inr p)) = absurd (run-past F _ r S (r + 1) (omega arith) (n (omega arith)) m (omega arith) h e)
+
+-- The least word of a run would be its first: what stands at the run's place in the index decides whether it is there.
+least-word : (w k a : ℕ) → Id a → Id (firstOf w) → runOf w ≡ runAt k a → wordOf k a 0 0 ≤ w
+least-word w k a h i e = omega arith
+
+module _ {t s : List ℕ} (X : Indexed t s) (k a i w : ℕ) (A : Id a) (I : i ≡ at s (runAt k a)) (W : w ≡ wordOf k a 0 0) where
+  least-first : Has t (wordOf k a 0 0) → (i < length t) × (at t i ≡ w)
+  least-first (m, l, e) = (within, between (at t i) (at t m) (words-ascend (X .words) i m from l) least e)
+    where
+      same : runOf (at t m) ≡ runAt k a
+      same = run-by (at t m) k a 0 A (omega arith) e
+
+      start : (at s (runAt k a) < length t) × (runOf (at t (at s (runAt k a))) ≡ runAt k a)
+      start = subst (λ (z : ℕ). (at s z < length t) × (runOf (at t (at s z)) ≡ z)) same (X .index .start m l)
+
+      within : i < length t
+      within = omega (arith, start .0)
+
+      from : i ≤ m
+      from = ⊎-elim (λ h. absurd (omega (arith, same, X .index .before (runAt k a) m (omega arith)))) (λ h. h) (split m i)
+
+      least : wordOf k a 0 0 ≤ at t i
+      least = least-word (at t i) k a A (first-id (X .words) i within) (rw I (start .1))
+
+      between : (u v : ℕ) → u ≤ v → wordOf k a 0 0 ≤ u → v ≡ wordOf k a 0 0 → u ≡ w
+      between u v p q r = omega (arith, W)
+
+  pub least-decides : (b : Bool) → Decides b ((i < length t) × (at t i ≡ w)) → Decides b (Stands t k a 0 0)
+  least-decides true h = ((A, omega arith, omega arith), (i, h .0, h .1 ∙ W))
+  least-decides false h = λ q. h (least-first (q .1))
 
 -- A run of links that is covered, by the values with the same subject and object.
 pub group-word : (w : ℕ) → kindOf w ≡ 10 → groupOf w ≡ wordOf 10 (firstOf w) (secondOf w) 0

@@ -2,9 +2,10 @@
 use crate::Rule;
 use crate::merge::place_of;
 use crate::present::has_both;
-use crate::present::has_fact;
+use crate::present::has_least;
 use crate::present::is_only;
-use crate::present::lacks_fact;
+use crate::present::lacks_in_run;
+use crate::present::lacks_least;
 use crate::schema::has_domain_and_range;
 use crate::schema::has_like_ranges;
 use crate::schema::has_linked_domains;
@@ -22,7 +23,6 @@ use table::INDIVIDUAL;
 use table::MEMBER;
 use table::PROPERTY;
 use table::RANGE;
-use table::RESOURCE;
 use table::SUBCLASS;
 use table::SUBPROPERTY;
 use table::Word;
@@ -46,9 +46,9 @@ fn ids_meet<'a>(t: &'a [Word], s: &'a [u16], rule: Rule, a: Word, b: Word, c: Wo
     ensures { λ r. ⌜ Decides r (Asks (graphOf (now (t .entry))) (ruleOf rule) a b c) ⌝ }
 {
     match rule {
-        Rule::R4 => lacks_fact(t, s, PROPERTY, a, 0),
-        Rule::R5 => lacks_fact(t, s, INDIVIDUAL, a, 0),
-        Rule::R6 => lacks_fact(t, s, INDIVIDUAL, a, 0),
+        Rule::R4 => lacks_least(t, s, PROPERTY, a),
+        Rule::R5 => lacks_least(t, s, INDIVIDUAL, a),
+        Rule::R6 => lacks_least(t, s, INDIVIDUAL, a),
         Rule::R7 => has_both(t, s, CLASS, a, CLASS, b),
         Rule::R8 => has_both(t, s, PROPERTY, a, PROPERTY, b),
         Rule::R9 => has_both(t, s, PROPERTY, a, CLASS, b),
@@ -56,14 +56,14 @@ fn ids_meet<'a>(t: &'a [Word], s: &'a [u16], rule: Rule, a: Word, b: Word, c: Wo
         Rule::R11 => has_both(t, s, INDIVIDUAL, a, CLASS, b),
         Rule::R12 => has_value_roles(t, s, a, b, c),
         Rule::R13 => is_under_resource(t, s, a),
-        Rule::R14 => has_fact(t, s, MEMBER, a, RESOURCE),
+        Rule::R14 => has_least(t, s, MEMBER, a),
         Rule::R15 => has_domain_and_range(t, s, a),
         Rule::R16 => is_only(t, s, DOMAIN, a, b),
         Rule::R17 => is_only(t, s, RANGE, a, b),
         Rule::R18 => true,
-        Rule::R19 => lacks_fact(t, s, SUBCLASS, b, a),
+        Rule::R19 => lacks_in_run(t, s, SUBCLASS, b, a),
         Rule::R20 => true,
-        Rule::R21 => lacks_fact(t, s, SUBPROPERTY, b, a),
+        Rule::R21 => lacks_in_run(t, s, SUBPROPERTY, b, a),
         Rule::R22 => has_linked_domains(t, s, a, b),
         Rule::R23 => has_linked_ranges(t, s, a, b),
         Rule::R24 => is_subject_member(t, s, a, c),

@@ -38,7 +38,7 @@ fn place_from(t: &[Word], from: usize, w: Word) -> usize
 }
 
 // Whether the word at a place, if there is one, is w.
-fn is_at(t: &[Word], i: usize, w: Word) -> bool
+pub fn is_at(t: &[Word], i: usize, w: Word) -> bool
     ensures { λ r. ⌜ Decides r ((i < length (now (t .entry))) × (at (now (t .entry)) i ≡ w)) ⌝ }
 {
     if i < t.len() {

@@ -1,7 +1,9 @@
 // Tests by ids that several rules share: whether a fact stands, and the facts of one kind and one first id.
 use crate::merge::is_among;
+use crate::merge::is_at;
 use crate::runs::IDS;
 use crate::runs::find_run;
+use crate::runs::number_at;
 use crate::runs::run_at;
 use crate::runs::run_of;
 use table::Word;
@@ -13,19 +15,35 @@ ghost use Rattle.table.specs.Answers.{Decides};
 ghost use Rattle.consistency.specs.Runs.{Indexed};
 ghost use Rattle.consistency.specs.Graphs.{Id, Stands, Single, Only};
 
-// Whether the fact of kind k with the ids a and b is there; b is 0 for a kind with one id.
-pub fn has_fact<'a>(t: &'a [Word], s: &'a [u16], k: Word, a: Word, b: Word) -> bool
+// Whether the fact of kind k with the ids a and b is there: it is looked for in its run.
+pub fn has_in_run<'a>(t: &'a [Word], s: &'a [u16], k: Word, a: Word, b: Word) -> bool
     requires { ⌜ Indexed (now t) (now s) × (k < 11) × (Id a × Id b) ⌝ }
     ensures { λ r. ⌜ Decides r (Stands (now (t .entry)) k a b 0) ⌝ }
 {
     is_among(t, s, word_of(k, a, b, 0))
 }
 
-pub fn lacks_fact<'a>(t: &'a [Word], s: &'a [u16], k: Word, a: Word, b: Word) -> bool
+pub fn lacks_in_run<'a>(t: &'a [Word], s: &'a [u16], k: Word, a: Word, b: Word) -> bool
     requires { ⌜ Indexed (now t) (now s) × (k < 11) × (Id a × Id b) ⌝ }
     ensures { λ r. ⌜ Decides r (Stands (now (t .entry)) k a b 0 → ⊥) ⌝ }
 {
-    !has_fact(t, s, k, a, b)
+    !has_in_run(t, s, k, a, b)
+}
+
+// Whether the fact of kind k with a as its only id, or with Resource beside it, is there: it would be the first word of its run.
+pub fn has_least<'a>(t: &'a [Word], s: &'a [u16], k: Word, a: Word) -> bool
+    requires { ⌜ Indexed (now t) (now s) × (k < 11) × Id a ⌝ }
+    ensures { λ r. ⌜ Decides r (Stands (now (t .entry)) k a 0 0) ⌝ }
+{
+    let i = number_at(s, run_at(k, a));
+    is_at(t, i, word_of(k, a, 0, 0))
+}
+
+pub fn lacks_least<'a>(t: &'a [Word], s: &'a [u16], k: Word, a: Word) -> bool
+    requires { ⌜ Indexed (now t) (now s) × (k < 11) × Id a ⌝ }
+    ensures { λ r. ⌜ Decides r (Stands (now (t .entry)) k a 0 0 → ⊥) ⌝ }
+{
+    !has_least(t, s, k, a)
 }
 
 // Whether a has the fact of kind k, and b that of kind l, both kinds with one id.
@@ -33,8 +51,8 @@ pub fn has_both<'a>(t: &'a [Word], s: &'a [u16], k: Word, a: Word, l: Word, b: W
     requires { ⌜ Indexed (now t) (now s) × (k < 11) × (l < 11) × (Id a × Id b) ⌝ }
     ensures { λ r. ⌜ Decides r (Stands (now (t .entry)) k a 0 0 × Stands (now (t .entry)) l b 0 0) ⌝ }
 {
-    if has_fact(t, s, k, a, 0) {
-        return has_fact(t, s, l, b, 0);
+    if has_least(t, s, k, a) {
+        return has_least(t, s, l, b);
     }
     false
 }

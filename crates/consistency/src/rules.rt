@@ -2,7 +2,7 @@
 use crate::Rule;
 use crate::each::all_meet;
 use crate::marks::all_carried;
-use crate::present::has_fact;
+use crate::present::has_least;
 use crate::values::all_inherited;
 use table::CLASS;
 use table::DOMAIN;
@@ -193,7 +193,7 @@ pub fn meets_h1<'a>(t: &'a [Word], s: &'a [u16]) -> bool
     requires { ⌜ Indexed (now t) (now s) ⌝ }
     ensures { λ r. ⌜ Decides r (Meets (graphOf (now (t .entry))) h1) ⌝ }
 {
-    has_fact(t, s, CLASS, RESOURCE, 0)
+    has_least(t, s, CLASS, RESOURCE)
 }
 
 pub fn meets_h2<'a>(t: &'a [Word], s: &'a [u16]) -> bool

@@ -1,5 +1,5 @@
 // Tests by ids of the rules on domains and ranges of properties: 15, 22, 23 and H4.
-use crate::present::has_fact;
+use crate::present::has_in_run;
 use crate::present::has_some;
 use crate::present::only_second;
 use crate::runs::IDS;
@@ -36,7 +36,7 @@ pub fn has_linked_domains<'a>(t: &'a [Word], s: &'a [u16], a: Word, b: Word) -> 
     if z < IDS {
         if w < IDS {
             if z != w {
-                return has_fact(t, s, SUBCLASS, z, w);
+                return has_in_run(t, s, SUBCLASS, z, w);
             }
         }
     }
@@ -55,7 +55,7 @@ pub fn has_linked_ranges<'a>(t: &'a [Word], s: &'a [u16], a: Word, b: Word) -> b
             if z != w {
                 if z != MARK {
                     if w != MARK {
-                        return has_fact(t, s, SUBCLASS, z, w);
+                        return has_in_run(t, s, SUBCLASS, z, w);
                     }
                 }
             }

@@ -1,6 +1,6 @@
 // Tests by ids of the rules on which facts each id must have: 10, 12, 13 and H2.
-use crate::present::has_fact;
-use crate::present::lacks_fact;
+use crate::present::has_least;
+use crate::present::lacks_least;
 use table::CLASS;
 use table::INDIVIDUAL;
 use table::LITERAL;
@@ -20,11 +20,11 @@ pub fn has_range_roles<'a>(t: &'a [Word], s: &'a [u16], a: Word, b: Word) -> boo
     requires { ⌜ Indexed (now t) (now s) × (Id a × Id b) ⌝ }
     ensures { λ r. ⌜ Decides r (Asks (graphOf (now (t .entry))) r10 a b 0) ⌝ }
 {
-    if has_fact(t, s, PROPERTY, a, 0) {
+    if has_least(t, s, PROPERTY, a) {
         if b == MARK {
             return true;
         }
-        return has_fact(t, s, CLASS, b, 0);
+        return has_least(t, s, CLASS, b);
     }
     false
 }
@@ -34,12 +34,12 @@ pub fn has_value_roles<'a>(t: &'a [Word], s: &'a [u16], a: Word, b: Word, c: Wor
     requires { ⌜ Indexed (now t) (now s) × (Id a × Id b × Id c) ⌝ }
     ensures { λ r. ⌜ Decides r (Asks (graphOf (now (t .entry))) r12 a b c) ⌝ }
 {
-    if has_fact(t, s, INDIVIDUAL, a, 0) {
-        if has_fact(t, s, PROPERTY, c, 0) {
-            if has_fact(t, s, INDIVIDUAL, b, 0) {
+    if has_least(t, s, INDIVIDUAL, a) {
+        if has_least(t, s, PROPERTY, c) {
+            if has_least(t, s, INDIVIDUAL, b) {
                 return true;
             }
-            return has_fact(t, s, LITERAL, b, 0);
+            return has_least(t, s, LITERAL, b);
         }
     }
     false
@@ -53,7 +53,7 @@ pub fn is_under_resource<'a>(t: &'a [Word], s: &'a [u16], a: Word) -> bool
     if a == RESOURCE {
         return true;
     }
-    has_fact(t, s, SUBCLASS, a, RESOURCE)
+    has_least(t, s, SUBCLASS, a)
 }
 
 // Rule H2, for Lit(a): a is no class, property or individual.
@@ -61,11 +61,11 @@ pub fn is_literal_only<'a>(t: &'a [Word], s: &'a [u16], a: Word) -> bool
     requires { ⌜ Indexed (now t) (now s) × Id a ⌝ }
     ensures { λ r. ⌜ Decides r (Asks (graphOf (now (t .entry))) h2 a 0 0) ⌝ }
 {
-    if has_fact(t, s, CLASS, a, 0) {
+    if has_least(t, s, CLASS, a) {
         return false;
     }
-    if has_fact(t, s, PROPERTY, a, 0) {
+    if has_least(t, s, PROPERTY, a) {
         return false;
     }
-    lacks_fact(t, s, INDIVIDUAL, a, 0)
+    lacks_least(t, s, INDIVIDUAL, a)
 }

@@ -2,7 +2,8 @@
 use crate::merge::group_start;
 use crate::merge::is_covered;
 use crate::merge::place_of;
-use crate::present::has_fact;
+use crate::present::has_in_run;
+use crate::present::has_least;
 use crate::present::only_second;
 use crate::runs::IDS;
 use crate::runs::run_at;
@@ -34,7 +35,7 @@ pub fn is_subject_member<'a>(t: &'a [Word], s: &'a [u16], a: Word, c: Word) -> b
 {
     let w = only_second(t, s, DOMAIN, c);
     if w < IDS {
-        return has_fact(t, s, MEMBER, a, w);
+        return has_in_run(t, s, MEMBER, a, w);
     }
     true
 }
@@ -47,7 +48,7 @@ pub fn is_object_member<'a>(t: &'a [Word], s: &'a [u16], b: Word, c: Word) -> bo
     let w = only_second(t, s, RANGE, c);
     if w < IDS {
         if w != MARK {
-            return has_fact(t, s, MEMBER, b, w);
+            return has_in_run(t, s, MEMBER, b, w);
         }
     }
     true
@@ -60,7 +61,7 @@ pub fn is_object_literal<'a>(t: &'a [Word], s: &'a [u16], b: Word, c: Word) -> b
 {
     let w = only_second(t, s, RANGE, c);
     if w == MARK {
-        return has_fact(t, s, LITERAL, b, 0);
+        return has_least(t, s, LITERAL, b);
     }
     true
 }

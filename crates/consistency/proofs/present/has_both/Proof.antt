@@ -5,17 +5,17 @@ use Rattle.consistency.proofs.Decided.{decides-as}
 use Rattle.consistency.proofs.present.has_both.Statement.{statement}
 use Rattle.consistency.proofs.present.has_both.Tie as tie
 
-has-fact-requires : tie.Need-has-fact-requires
-has-fact-requires c κs = search needs
+has-least-requires : tie.Need-has-least-requires
+has-least-requires c κs = search needs
 
-has-fact-requires-2 : tie.Need-has-fact-requires-2
-has-fact-requires-2 c κs = search needs
+has-least-requires-2 : tie.Need-has-least-requires-2
+has-least-requires-2 c κs = search needs
 
 returns : tie.Need-returns
-returns c = decides-as (c .has-fact2 .result) _ _ (λ h. (decides-true (c .before .before .has-fact .result) (c .before .before .has-fact .ensures) (c .before .if1 .taken), h)) (λ h. h .1) (c .has-fact2 .ensures)
+returns c = decides-as (c .has-least2 .result) _ _ (λ h. (decides-true (c .before .before .has-least .result) (c .before .before .has-least .ensures) (c .before .if1 .taken), h)) (λ h. h .1) (c .has-least2 .ensures)
 
 returns-2 : tie.Need-returns-2
-returns-2 c = λ h. decides-false (c .before .has-fact .result) (c .before .has-fact .ensures) (c .if1 .left) (h .0)
+returns-2 c = λ h. decides-false (c .before .has-least .result) (c .before .has-least .ensures) (c .if1 .left) (h .0)
 
 pub has-both-spec : {M : Type 1} → statement M
-has-both-spec = tie.close (tie.spec has-fact-requires has-fact-requires-2 returns returns-2)
+has-both-spec = tie.close (tie.spec has-least-requires has-least-requires-2 returns returns-2)

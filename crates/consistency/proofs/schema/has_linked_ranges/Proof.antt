@@ -14,8 +14,8 @@ only-second-requires c κs = search needs
 only-second-requires-2 : tie.Need-only-second-requires-2
 only-second-requires-2 c κs = search needs
 
-has-fact-requires : tie.Need-has-fact-requires
-has-fact-requires c κs = search needs
+has-in-run-requires : tie.Need-has-in-run-requires
+has-in-run-requires c κs = search needs
 
 returns : tie.Need-returns
 returns c =
@@ -26,10 +26,10 @@ returns c =
     let entry = at-only-second .before .before .before in
     let za = at-only-second .only-second .ensures in
     let zb = at-only-second2 .only-second2 .ensures in
-    decides-as (c .has-fact .result) _ _
+    decides-as (c .has-in-run .result) _ _
     (λ h z w p q n m o. only-both za zb (λ x y. Stands (now (entry .args .t)) 5 x y 0) h z w p q)
     (λ f. f _ _ (za .some (at-if1 .if1 .taken)) (zb .some (at-if2 .if2 .taken)) (c .before .before .before .if3 .taken) (c .before .before .if4 .taken) (c .before .if5 .taken))
-    (c .has-fact .ensures)
+    (c .has-in-run .ensures)
 
 returns-2 : tie.Need-returns-2
 returns-2 c =
@@ -60,7 +60,7 @@ has-linked-ranges-spec =
     (tie.spec
     only-second-requires
     only-second-requires-2
-    has-fact-requires
+    has-in-run-requires
     returns
     returns-2
     returns-3

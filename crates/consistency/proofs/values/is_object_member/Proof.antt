@@ -11,16 +11,16 @@ use Rattle.consistency.proofs.values.is_object_member.Tie as tie
 only-second-requires : tie.Need-only-second-requires
 only-second-requires c κs = search needs
 
-has-fact-requires : tie.Need-has-fact-requires
-has-fact-requires c κs = search needs
+has-in-run-requires : tie.Need-has-in-run-requires
+has-in-run-requires c κs = search needs
 
 returns : tie.Need-returns
 returns c =
     let entry = c .before .before .before .before .before .before in
-    decides-as (c .has-fact .result) _ _
+    decides-as (c .has-in-run .result) _ _
     (λ h w p n. only-is (c .before .before .before .only-second .ensures) (λ x. Stands (now (entry .args .t)) 9 (entry .args .b) x 0) h w p)
     (λ f. f _ (c .before .before .before .only-second .ensures .some (c .before .before .if1 .taken)) (c .before .if2 .taken))
-    (c .has-fact .ensures)
+    (c .has-in-run .ensures)
 
 returns-2 : tie.Need-returns-2
 returns-2 c = λ w p n. absurd (n (c .before .before .only-second .ensures .all w p ∙ c .if2 .left))
@@ -30,4 +30,4 @@ returns-3 c = λ w p n. absurd (only-out (c .before .only-second .ensures) (c .i
 
 pub is-object-member-spec : {M : Type 1} → statement M
 is-object-member-spec =
-    tie.close (tie.spec only-second-requires has-fact-requires returns returns-2 returns-3)
+    tie.close (tie.spec only-second-requires has-in-run-requires returns returns-2 returns-3)

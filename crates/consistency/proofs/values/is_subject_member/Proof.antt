@@ -10,20 +10,20 @@ use Rattle.consistency.proofs.values.is_subject_member.Tie as tie
 only-second-requires : tie.Need-only-second-requires
 only-second-requires c κs = search needs
 
-has-fact-requires : tie.Need-has-fact-requires
-has-fact-requires c κs = search needs
+has-in-run-requires : tie.Need-has-in-run-requires
+has-in-run-requires c κs = search needs
 
 returns : tie.Need-returns
 returns c =
     let entry = c .before .before .before .before .before in
-    decides-as (c .has-fact .result) _ _
+    decides-as (c .has-in-run .result) _ _
     (λ h w p. only-is (c .before .before .only-second .ensures) (λ x. Stands (now (entry .args .t)) 9 (entry .args .a) x 0) h w p)
     (λ f. f _ (c .before .before .only-second .ensures .some (c .before .if1 .taken)))
-    (c .has-fact .ensures)
+    (c .has-in-run .ensures)
 
 returns-2 : tie.Need-returns-2
 returns-2 c = λ w p. absurd (only-out (c .before .only-second .ensures) (c .if1 .left) w p)
 
 pub is-subject-member-spec : {M : Type 1} → statement M
 is-subject-member-spec =
-    tie.close (tie.spec only-second-requires has-fact-requires returns returns-2)
+    tie.close (tie.spec only-second-requires has-in-run-requires returns returns-2)

@@ -1,12 +1,12 @@
--- `present::has_fact` meets its contract: the fact stands exactly if its word is there. Assumes nothing.
+-- `present::has_in_run` meets its contract: the fact stands exactly if its word is there. Assumes nothing.
 use mathlib.Core.Path.{subst, sym}
 use native.Mathlib.Omega.{arith}
 use borrow.Author.Needs.{needs}
 use denote.Ref.{now}
 use Rattle.consistency.specs.Runs.{Has}
 use Rattle.consistency.proofs.Decided.{decides-as}
-use Rattle.consistency.proofs.present.has_fact.Statement.{statement}
-use Rattle.consistency.proofs.present.has_fact.Tie as tie
+use Rattle.consistency.proofs.present.has_in_run.Statement.{statement}
+use Rattle.consistency.proofs.present.has_in_run.Tie as tie
 
 word-of-requires : tie.Need-word-of-requires
 word-of-requires c κs = search needs
@@ -22,5 +22,5 @@ returns c =
     (λ h. subst (Has (now (entry .args .t))) (sym (c .before .word-of .ensures)) (h .1))
     (c .is-among .ensures)
 
-pub has-fact-spec : {M : Type 1} → statement M
-has-fact-spec = tie.close (tie.spec word-of-requires is-among-requires returns)
+pub has-in-run-spec : {M : Type 1} → statement M
+has-in-run-spec = tie.close (tie.spec word-of-requires is-among-requires returns)
