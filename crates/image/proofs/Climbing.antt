@@ -21,7 +21,7 @@ use Rattle.image.proofs.Linking.{kinds-more, kinds-done}
 
 -- The first of some words, which is no zero: above the last word and a fact, or the words are not laid out.
 module _ (last w : ℕ) (l : List ℕ) (some : 0 < w) where
-  open-up : laidOut product (suc last) (w ∷ l) ≡ (leb (suc last) w && (isFact product w && laidOut product (suc w) l))
+  pub open-up : laidOut product (suc last) (w ∷ l) ≡ (leb (suc last) w && (isFact product w && laidOut product (suc w) l))
   open-up = ap (λ b. cond b (all (λ x. eqb x 0) l) (leb (suc last) w && (isFact product w && laidOut product (suc w) l))) (ne-eqb w 0 (omega arith))
 
   laid-more : last < w → isFact product w ≡ true → laidOut product (suc last) (w ∷ l) ≡ laidOut product (suc w) l

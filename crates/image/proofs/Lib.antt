@@ -1,7 +1,7 @@
 -- Laws on the definitions: InBytes (numbers in bytes), FactsRead and WordsRead (a body, both ways), Grouped (words kind by kind), ImageRead (an
 -- image that was written), ImageAgain (bytes whose contents are right), RoundTrip, Product (the same at the product's numbers). Cases: computed.
--- For functions: Places (contents, word_at), Deciding and Linking (contents), Climbing (rise_of, is_rising), HasBody (has_body, body), Filling, Filled
--- and Copying (reader), ReadCall (read), KindCount, Measuring, Overlaid, PutFact and PutParts (writer), WriteCall (write). Theorems: what is proved.
+-- For functions: Places (contents, word_at), Deciding and Linking (contents), Climbing (rise_of, is_rising), HasBody (has_body, body), Filling and
+-- Filled (reader), Held and ReadCall (read), KindCount, Measuring, Overlaid, PutFact and PutParts (writer), WriteCall (write). Theorems: what is proved.
 pub mod Cases
 pub mod InBytes
 pub mod FactsRead
@@ -18,7 +18,7 @@ pub mod Climbing
 pub mod HasBody
 pub mod Filling
 pub mod Filled
-pub mod Copying
+pub mod Held
 pub mod ReadCall
 pub mod KindCount
 pub mod Measuring

@@ -103,7 +103,7 @@ module _ (N : Numbers) (F : Form) (proper : Proper F) (few : F .entries ≤ 10) 
 
 -- The words that bytes give are no zeros.
 module _ (N : Numbers) (F : Form) (s : Sound N) (bytes : List ℕ) where
-  words-some : (w : ℕ) → w ∈ wordsOf N F bytes → 0 < w
+  pub words-some : (w : ℕ) → w ∈ wordsOf N F bytes → 0 < w
   unfolding wordsOf
   words-some w i = let r = in-concatMap (wordsIn N F bytes) (kinds F) i in from-some (r .0) (countAt F bytes (r .0)) (startAt F bytes (r .0)) (r .2)
     where

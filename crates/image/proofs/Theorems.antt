@@ -10,11 +10,11 @@ use borrow.Author.Tests.{ltb-false}
 use Rattle.rdfs.specs.Numbers.{Numbers, Sound, product}
 use Rattle.rdfs.specs.Lists.{_∈_}
 use Rattle.rdfs.specs.Clashes.{consistent?}
-use Rattle.rdfs.specs.Words.{fact, filled, padded}
-use Rattle.rdfs.specs.Register.{orElse, badSize, inconsistent, tableRefusal}
+use Rattle.rdfs.specs.Words.{fact, laidOut, filled, padded}
+use Rattle.rdfs.specs.Register.{orElse, badSize, badLayout, inconsistent, tableRefusal}
 use Rattle.rdfs.proofs.LaidOut.{laid-shape}
 use Rattle.rdfs.proofs.Theorems.{product-sound}
-use Rattle.table.proofs.Sizes.{size-some}
+use Rattle.table.proofs.Answers.{is-true}
 use Rattle.table.proofs.Filled.{filled-within}
 use Rattle.image.specs.Form.{Form, Proper, form, kinds}
 use Rattle.image.specs.Image.{bodyOf, imageOf}
@@ -22,7 +22,8 @@ use Rattle.image.specs.Reading.{Facts, wordsOf, malformed, bodyStart, bo
 use Rattle.image.specs.Calls.{tableImage, imageRefusal, readAnswer, readWords}
 use Rattle.image.proofs.RoundTrip.{words-again, written-well, read-well, words-full, body-ids, filled-facts}
 use Rattle.image.proofs.Product.{proper}
-use Rattle.image.proofs.ReadCall.{else-none, read-checked, read-done, judged-fits, size-most, held-filled, held-checked}
+use Rattle.image.proofs.Held.{held-filled, held-checked}
+use Rattle.image.proofs.ReadCall.{else-none, read-done, read-fitting}
 use Rattle.image.proofs.WriteCall.{accepted-laid, accepted-consistent}
 
 -- For any numbers and any form with an entry for each kind: an image that was written is well formed and gives its words.
@@ -47,9 +48,10 @@ image-reads-back t u e size h =
     let bytes : List ℕ = tableImage t in
     let f : Facts product l = filled-facts product product-sound t (accepted-laid t e) in
     let r = written-reads product form product-sound proper (lit≤ tt) l f in
-    let fits : 0 ≡ imageRefusal bytes (length u) 0 = judged-fits bytes (length u) (r .1) (subst (λ m. length m ≤ length u) (sym (r .0)) h) in
+    let fits : length (wordsOf product form bytes) ≤ length u = subst (λ m. length m ≤ length u) (sym (r .0)) h in
     let same : inconsistent product (wordsOf product form bytes) ≡ false = ap (inconsistent product) (r .0) ∙ (ap (λ m. not (consistent? (map (fact (product .base)) m))) (f .full) ∙ accepted-consistent t e) in
-    read-done u bytes (read-checked u bytes size fits 0 (sym (ap (λ b. orElse b 3 0) same))) (padded (length u) l) (ap (padded (length u)) (sym (r .0)))
+    let none : readAnswer u bytes ≡ 0 = read-fitting u bytes size fits ∙ (ap (λ b. orElse b 12 (orElse (inconsistent product (wordsOf product form bytes)) 3 0)) (r .1) ∙ ap (λ b. orElse b 3 0) same) in
+    read-done u bytes (sym none) (padded (length u) l) (ap (padded (length u)) (sym (r .0)))
 
 -- Read into a table of its own length it is the same table.
 pub table-reads-back : (t u : List ℕ) → 0 ≡ tableRefusal product t 0 → badSize product u ≡ false → length t ≡ length u → t ≡ readWords u (tableImage t)
@@ -66,7 +68,9 @@ read-writes t bytes e =
     let b = else-none (malformed product form bytes) 12 (orElse more 11 last) (omega arith) (a .1) in
     let c = else-none more 11 last (omega arith) (b .1) in
     let fits : length (wordsOf product form bytes) ≤ length t = ltb-false (length t) (length (wordsOf product form bytes)) (c .0) in
-    let held : readWords t bytes ≡ padded (length t) (wordsOf product form bytes) = sym (read-done t bytes e (padded (length t) (wordsOf product form bytes)) refl .1) in (
-      read-well product form bytes (b .0) .0 ∙ ap (imageOf product form) (sym (ap filled held ∙ held-filled bytes (b .0) (length t) fits)),
-      sym (ap (λ w. tableRefusal product w 0) held ∙ (held-checked bytes (b .0) (length t) fits (size-some product t (a .0)) (size-most t (a .0)) ∙ c .1)),
+    let held : readWords t bytes ≡ padded (length t) (wordsOf product form bytes) = sym (read-done t bytes e (padded (length t) (wordsOf product form bytes)) refl .1) in
+    let well = read-well product form bytes (b .0) in
+    let laid : badLayout product (wordsOf product form bytes) ≡ false = ap not (is-true {b = laidOut product 1 (wordsOf product form bytes)} (well .1)) in (
+      well .0 ∙ ap (imageOf product form) (sym (ap filled held ∙ held-filled t bytes (a .0) fits)),
+      sym (ap (λ w. tableRefusal product w 0) held ∙ (held-checked t bytes (a .0) fits ∙ (ap (λ n. orElse n 2 last) laid ∙ c .1))),
     )

@@ -10,8 +10,13 @@ use lib.Seq.{take-at, drop-drop, drop-append-add, length-take-le}
 use borrow.Author.Tests.{eq-eqb, ne-eqb, lt-ltb, le-ltb, not-false}
 use Rattle.rdfs.specs.Numbers.{product}
 use Rattle.rdfs.specs.Lists.{concatMap}
-use Rattle.rdfs.specs.Words.{laidOut, filled}
-use Rattle.rdfs.specs.Register.{orElse, badSize, badLayout, inconsistent, tableRefusal}
+use Rattle.rdfs.specs.Words.{laidOut, filled, facts}
+use Rattle.rdfs.specs.Clashes.{consistent?}
+use Rattle.rdfs.specs.Register.{orElse, badSize, badLayout, inconsistent, tableRefusal, Table}
+use Rattle.rdfs.proofs.Decision.{check-sound}
+use Rattle.rdfs.proofs.Refusals.{pass-link}
+use Rattle.rdfs.proofs.Steps.{table-sane}
+use Rattle.table.proofs.Sizes.{size-some}
 use Rattle.image.specs.Form.{form}
 use Rattle.image.specs.Image.{idBytes}
 use Rattle.image.specs.Calls.{tableImage, writeAnswer, writeLength, writeBytes}
@@ -33,13 +38,27 @@ module _ (t : List ℕ) (e : 0 ≡ tableRefusal product t 0) where
   pub accepted-laid : T (laidOut product 1 t)
   accepted-laid = subst T (sym (not-false (laidOut product 1 t) (two .0))) tt
 
-  pub accepted-counted : (n : ℕ) → n ≡ length (filled t) → Counted t n
-  accepted-counted n q = record { laid = accepted-laid; count = q; few = size-most t (one .0) }
-
   pub accepted-passes : (rest : ℕ) → tableRefusal product t rest ≡ rest
   accepted-passes rest =
       ap (λ b. orElse b 1 (orElse (badLayout product t) 2 (orElse (inconsistent product t) 3 rest))) (one .0)
       ∙ (ap (λ b. orElse b 2 (orElse (inconsistent product t) 3 rest)) (two .0) ∙ ap (λ b. orElse b 3 rest) accepted-consistent)
+
+  pub accepted-table : Table product t
+  accepted-table = record {
+    some = size-some product t (one .0);
+    fits = size-most t (one .0);
+    laid = accepted-laid;
+    consistent = check-sound (facts product t) (subst T (sym (not-false (consistent? (facts product t)) accepted-consistent)) tt);
+  }
+
+pub table-counted : {t : List ℕ} → Table product t → (n : ℕ) → n ≡ length (filled t) → Counted t n
+table-counted h n q = record { laid = h .laid; count = q; few = h .fits }
+
+-- A consistent table is not refused.
+pub table-accepted : (t : List ℕ) → Table product t → 0 ≡ tableRefusal product t 0
+table-accepted t h =
+    let s = table-sane product t h in
+    sym (pass-link (badSize product t) 1 _ (s .size) ∙ (pass-link (badLayout product t) 2 _ (s .layout) ∙ pass-link (inconsistent product t) 3 _ (s .rules)))
 
 -- The answer, the length and the bytes at the end.
 abbrev pub Wrote : List ℕ → List ℕ → ℕ → ℕ → List ℕ → Type 0

@@ -1,10 +1,13 @@
 -- What a walk over the contents of some bytes tests, entry by entry.
-use Prim.Native.Nat.{ℕ, _+_, _*_}
+use Prim.Native.Nat.{ℕ, _+_, _*_, _≤_}
 use mathlib.Core.Path.{_≡_}
+use mathlib.Core.Bool.{false}
 use mathlib.Core.List.{List, [], _∷_}
 use lib.ListN.{length, getD}
-use Rattle.image.specs.Form.{Form, factSize, entryAt, firstBody, kinds}
-use Rattle.image.specs.Reading.{startAt, countAt}
+use Rattle.rdfs.specs.Numbers.{product}
+use Rattle.rdfs.specs.Register.{badSize}
+use Rattle.image.specs.Form.{Form, form, factSize, entryAt, firstBody, kinds}
+use Rattle.image.specs.Reading.{startAt, countAt, wordsOf}
 
 -- The entry of kind k is right if its body starts at `start`.
 pub record Entry (F : Form) (bytes : List ℕ) (k start : ℕ) : Type 0 where
@@ -25,3 +28,9 @@ pub record Contents (F : Form) (bytes : List ℕ) : Type 0 where
   pub edition : getD bytes 0 0 ≡ F .edition
   pub entries : getD bytes 1 0 ≡ F .entries
   pub linked : Linked F bytes
+
+-- Bytes whose contents are right give no more words than a table has, whose size is right.
+pub record Fitting (t bytes : List ℕ) : Type 0 where
+  pub contents : Contents form bytes
+  pub fits : length (wordsOf product form bytes) ≤ length t
+  pub size : badSize product t ≡ false

@@ -83,7 +83,7 @@ fn rise_of(image: &[u8], k: Word, from: usize, count: usize, last: Word) -> Rise
 }
 
 // Whether the words of the bodies are facts, ascending, none twice.
-fn is_rising(image: &[u8]) -> bool
+pub fn is_rising(image: &[u8]) -> bool
     requires { ⌜ Contents form (now image) ⌝ }
     ensures { λ r. ⌜ r ≡ laidOut product 1 (wordsOf product form (now (image .entry))) ⌝ }
 {

@@ -3,9 +3,10 @@
 //
 // The public calls are `write`, `read` and `body`. They have no `requires`: each says, for all inputs, what it answers and every word and byte
 // afterwards; `body` also says where its part lies. An image that was written is read back as its table, and no other image is read
-// (proofs/Theorems.antt). The crate assumes nothing.
+// (proofs/Theorems.antt). `write_checked` serves the crates above: writing without the check. The crate assumes nothing.
 ghost use mathlib.Core.Path.{_≡_};
 ghost use Rattle.rdfs.specs.Numbers.{product};
+ghost use Rattle.rdfs.specs.Register.{Table};
 ghost use Rattle.image.specs.Form.{form};
 ghost use Rattle.image.specs.Reading.{bodyStart, bodySize};
 ghost use Rattle.image.specs.Parts.{IsPart};
@@ -20,11 +21,13 @@ mod writer;
 use bodies::has_body;
 use consistency::check;
 use contents::count_at;
+use contents::has_contents;
 use contents::start_at;
 use form::fact_size;
-use reader::copy_words;
-use reader::fill_words;
-use reader::image_refusal;
+use reader::MALFORMED;
+use reader::count_words;
+use reader::overfull_refusal;
+use reader::read_through;
 use table::BAD_SIZE;
 use table::MOST;
 use table::Word;
@@ -51,6 +54,14 @@ pub fn write(t: &[Word], output: &mut [u8]) -> Written
     if answer != 0 {
         return Written { answer, length: 0 };
     }
+    write_checked(t, output)
+}
+
+// The same for a table known to be consistent: only 13 can come.
+pub fn write_checked(t: &[Word], output: &mut [u8]) -> Written
+    requires { ⌜ Table product (now t) ⌝ }
+    ensures { λ r. ⌜ (r .answer ≡ writeAnswer (now (t .entry)) (now (output .entry))) × (r .length ≡ writeLength (now (t .entry)) (now (output .entry))) × (now (output .exit) ≡ writeBytes (now (t .entry)) (now (output .entry))) ⌝ }
+{
     let n = count_facts(t);
     let length = image_length(t, n);
     if output.len() < length {
@@ -94,16 +105,15 @@ pub fn read(t: &mut [Word], image: &[u8]) -> u8
     if bad {
         return BAD_SIZE;
     }
-    let refusal = image_refusal(image, t.len());
-    if refusal != 0 {
-        return refusal;
+    let right = has_contents(image);
+    if !right {
+        return MALFORMED;
     }
-    let mut work = [0u32; MOST];
-    fill_words(&mut work, image);
-    let answer = check(&work);
-    if answer != 0 {
-        return answer;
+    let n = count_words(image);
+    let room = t.len();
+    if room < n {
+        return overfull_refusal(image);
     }
-    copy_words(t, &work);
-    0
+    let mut work: [Word; MOST] = [0; MOST];
+    read_through(t, &mut work[..room], image)
 }

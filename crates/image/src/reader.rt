@@ -2,20 +2,24 @@
 ghost use mathlib.Core.Path.{_≡_};
 ghost use mathlib.Core.List.{_++_};
 ghost use Prim.Native.Nat.{_+_, _*_, _≤_};
-ghost use lib.ListN.{length, take, drop};
+ghost use lib.ListN.{length, drop, replicate};
 ghost use lib.Seq.{paste};
 ghost use Rattle.rdfs.specs.Numbers.{product};
+ghost use Rattle.rdfs.specs.Register.{orElse};
 ghost use Rattle.image.specs.Form.{form, factSize};
-ghost use Rattle.image.specs.Reading.{wordsFrom, wordsOf};
-ghost use Rattle.image.specs.Contents.{Contents};
-ghost use Rattle.image.specs.Calls.{imageRefusal};
-use crate::bodies::is_well_formed;
+ghost use Rattle.image.specs.Reading.{wordsFrom, wordsOf, malformed};
+ghost use Rattle.image.specs.Contents.{Contents, Fitting};
+ghost use Rattle.image.specs.Calls.{readAnswer, readWords};
+use crate::bodies::is_rising;
 use crate::bodies::word_at;
 use crate::contents::count_at;
 use crate::contents::start_at;
 use crate::form::ENTRIES;
 use crate::form::fact_size;
+use consistency::check;
+use table::BAD_LAYOUT;
 use table::Word;
+use table::copy_words;
 
 // Refusal 12: an image that is malformed.
 pub const MALFORMED: u8 = 12;
@@ -38,19 +42,16 @@ pub fn count_words(image: &[u8]) -> usize
     total
 }
 
-// The first of refusals 12 and 11 whose condition holds, for a table of `room` words, or 0.
-pub fn image_refusal(image: &[u8], room: usize) -> u8
-    ensures { λ r. ⌜ r ≡ imageRefusal (now (image .entry)) room 0 ⌝ }
+// The refusal of an image with right contents and more facts than the table has words: 12 comes before 11.
+pub fn overfull_refusal(image: &[u8]) -> u8
+    requires { ⌜ Contents form (now image) ⌝ }
+    ensures { λ r. ⌜ r ≡ orElse (malformed product form (now (image .entry))) 12 11 ⌝ }
 {
-    let well = is_well_formed(image);
-    if !well {
-        return MALFORMED;
-    }
-    let n = count_words(image);
-    if room < n {
+    let rising = is_rising(image);
+    if rising {
         return TOO_MANY;
     }
-    0
+    MALFORMED
 }
 
 // Stores the words of the count facts of kind k from place `from` on, from place `place` of the table on.
@@ -70,7 +71,7 @@ fn fill_body(t: &mut [Word], place: usize, image: &[u8], k: Word, from: usize, c
 }
 
 // Stores the words of an image from the table's first place on.
-pub fn fill_words(t: &mut [Word], image: &[u8])
+fn fill_words(t: &mut [Word], image: &[u8])
     requires { ⌜ Contents form (now image) × (length (wordsOf product form (now image)) ≤ length (now t)) ⌝ }
     ensures { λ _. ⌜ now (t .exit) ≡ wordsOf product form (now (image .entry)) ++ drop (length (wordsOf product form (now (image .entry)))) (now (t .entry)) ⌝ }
 {
@@ -86,14 +87,20 @@ pub fn fill_words(t: &mut [Word], image: &[u8])
     }
 }
 
-// Copies words over a table, as many as it has.
-pub fn copy_words(t: &mut [Word], words: &[Word])
-    requires { ⌜ length (now t) ≤ length (now words) ⌝ }
-    ensures { λ _. ⌜ now (t .exit) ≡ take (length (now (t .entry))) (now (words .entry)) ⌝ }
+// Reads an image with right contents and facts that fit, through a work table of as many zeros as the table has words. The words are not
+// laid out exactly if the image is malformed, so refusal 2 of the check is 12.
+pub fn read_through(t: &mut [Word], work: &mut [Word], image: &[u8]) -> u8
+    requires { ⌜ Fitting (now t) (now image) × (now work ≡ replicate (length (now t)) 0) ⌝ }
+    ensures { λ r. ⌜ (r ≡ readAnswer (now (t .entry)) (now (image .entry))) × (now (t .exit) ≡ readWords (now (t .entry)) (now (image .entry))) ⌝ }
 {
-    let mut i = 0;
-    while i < t.len() {
-        t[i] = words[i];
-        i += 1;
+    fill_words(work, image);
+    let answer = check(work);
+    if answer == BAD_LAYOUT {
+        return MALFORMED;
     }
+    if answer != 0 {
+        return answer;
+    }
+    copy_words(work, t);
+    0
 }

@@ -7,6 +7,8 @@ use lib.Dec.{eqb}
 use borrow.Author.Tests.{eq-eqb, ne-eqb}
 use Rattle.rdfs.specs.Numbers.{product}
 use Rattle.rdfs.specs.Register.{Answer, step, Table}
+use Rattle.rdfs.proofs.AfterEach.{after}
+use Rattle.rdfs.proofs.Theorems.{product-sound}
 use Rattle.image.specs.Calls.{readAnswer, readWords, writeAnswer, writeLength, writeBytes}
 use Rattle.image.proofs.Theorems.{read-writes}
 use Rattle.ticket.specs.Answered.{Answered}
@@ -35,13 +37,17 @@ Hosted image ticket output r v = (r ≡ hostAnswer image ticket output) × (v �
 pub read-table : (image : List ℕ) (n : ℕ) {w : List ℕ} → n ≡ readAnswer room image → n ≡ 0 → w ≡ readWords room image → Table product w
 read-table image n e z h = subst (Table product) (sym h) (checked-table (readWords room image) (sym (read-writes room image (sym z ∙ e) .1)))
 
+-- So are those that a ticket leaves.
+pub left-table : {w v : List ℕ} (ticket : List ℕ) → Table product w → (a : Applied) → Answered a v (step product w ticket) → Table product v
+left-table {w} ticket t a did = subst (Table product) (sym (did .words)) (after product product-sound w ticket t .rules)
+
 module _ (image ticket output : List ℕ) where
   abbrev s : Answer
   s = applied image ticket
 
   -- The refusals after reading, and the end.
-  abbrev after : ℕ
-  after = refusedElse (writeAnswer (s .table) output) (packed 0 (s .added) (s .removed) (writeLength (s .table) output))
+  abbrev later : ℕ
+  later = refusedElse (writeAnswer (s .table) output) (packed 0 (s .added) (s .removed) (writeLength (s .table) output))
 
   pub way-unread : (n r : ℕ) → n ≡ readAnswer room image → (n ≡ 0 → ⊥) → r ≡ packed n 0 0 0 → Hosted image ticket output r output
   unfolding hostAnswer hostOutput
@@ -55,9 +61,9 @@ module _ (image ticket output : List ℕ) where
     unfolding applied
     same = subst (λ x. Answered a v (step product x ticket)) from did
 
-    read-answer : hostAnswer image ticket output ≡ refusedElse (s .number) after
+    read-answer : hostAnswer image ticket output ≡ refusedElse (s .number) later
     unfolding hostAnswer
-    read-answer = passed-is (readAnswer room image) (refusedElse (s .number) after) read
+    read-answer = passed-is (readAnswer room image) (refusedElse (s .number) later) read
 
     read-output : hostOutput image ticket output ≡ cond (eqb (s .number) 0) (writeBytes (s .table) output) output
     unfolding hostOutput
@@ -66,15 +72,15 @@ module _ (image ticket output : List ℕ) where
     pub way-unapplied : (r : ℕ) → (a .answer ≡ 0 → ⊥) → r ≡ packed (a .answer) 0 0 0 → Hosted image ticket output r output
     way-unapplied r h p =
         let no : s .number ≡ 0 → ⊥ = λ z. h (same .number ∙ z) in
-        (p ∙ (ap (λ m. packed m 0 0 0) (same .number) ∙ (sym (refused-is (s .number) after no) ∙ sym read-answer)), sym (refused-keeps (s .number) (writeBytes (s .table) output) output no) ∙ sym read-output)
+        (p ∙ (ap (λ m. packed m 0 0 0) (same .number) ∙ (sym (refused-is (s .number) later no) ∙ sym read-answer)), sym (refused-keeps (s .number) (writeBytes (s .table) output) output no) ∙ sym read-output)
 
     -- Accepted; then writing's answer n, the length l and the bytes u.
     module _ (z : a .answer ≡ 0) (n l : ℕ) (u : List ℕ) (en : n ≡ writeAnswer v output) (el : l ≡ writeLength v output) (eu : u ≡ writeBytes v output) where
       accepted : s .number ≡ 0
       accepted = sym (same .number) ∙ z
 
-      applied-answer : hostAnswer image ticket output ≡ after
-      applied-answer = read-answer ∙ passed-is (s .number) after accepted
+      applied-answer : hostAnswer image ticket output ≡ later
+      applied-answer = read-answer ∙ passed-is (s .number) later accepted
 
       left : u ≡ hostOutput image ticket output
       left = eu ∙ (ap (λ x. writeBytes x output) (same .words) ∙ (sym (passed-leaves (s .number) (writeBytes (s .table) output) output accepted) ∙ sym read-output))

@@ -3,12 +3,13 @@
 // The public call is `vimelosa_apply`. It has no `requires`: it says, for all bytes of the three, the number it answers and every byte of the
 // output afterwards, through the definitions of reading, of the ticket and of writing. The crate assumes nothing.
 //
-// The table that the image is read into is the call's own: 8 KB of stack, beside those of the steps.
+// The table that the image is read into is the call's own: 8 KB of stack, beside those of the steps. It is checked once, by reading.
 ghost use mathlib.Core.Path.{_≡_};
 ghost use Rattle.vimelosa.specs.Host.{packed, hostAnswer, hostOutput};
 use image::read;
-use image::write;
+use image::write_checked;
 use table::MOST;
+use table::Word;
 use ticket::apply_checked;
 
 // The numbers that 16 bits have.
@@ -27,7 +28,7 @@ fn pack(answer: u8, added: u16, removed: u16, length: u16) -> u64
 pub extern "C" fn vimelosa_apply(image: &[u8], ticket: &[u8], output: &mut [u8]) -> u64
     ensures { λ r. ⌜ (r ≡ hostAnswer (now (image .entry)) (now (ticket .entry)) (now (output .entry))) × (now (output .exit) ≡ hostOutput (now (image .entry)) (now (ticket .entry)) (now (output .entry))) ⌝ }
 {
-    let mut table = [0; MOST];
+    let mut table: [Word; MOST] = [0; MOST];
     let refusal = read(&mut table, image);
     if refusal != 0 {
         return pack(refusal, 0, 0, 0);
@@ -36,7 +37,7 @@ pub extern "C" fn vimelosa_apply(image: &[u8], ticket: &[u8], output: &mut [u8])
     if applied.answer != 0 {
         return pack(applied.answer, 0, 0, 0);
     }
-    let written = write(&table, output);
+    let written = write_checked(&table, output);
     if written.answer != 0 {
         return pack(written.answer, 0, 0, 0);
     }

@@ -1,11 +1,17 @@
--- `read`: each refusal in its order, and the words of the work table at last. Assumes nothing.
+-- `read`: each refusal in its order, and the rest through a work table of zeros. Assumes nothing.
 use native.Mathlib.Omega.{arith}
-use mathlib.Core.Path.{sym, _∙_}
-use mathlib.Core.List.{List}
-use Prim.Native.Nat.{ℕ}
+use mathlib.Core.Path.{sym, subst, _∙_}
+use Prim.Native.Nat.{_≤_, _<_}
 use lib.ListN.{length}
-use Rattle.image.proofs.Product.{well-contents}
-use Rattle.image.proofs.ReadCall.{read-refused, read-done, read-small, read-judged, judged-well, work-fits, work-room, work-answer, work-copied}
+use lib.Seq.{length-take-le}
+use borrow.Author.Tests.{not-true, not-false}
+use Rattle.rdfs.specs.Numbers.{product}
+use Rattle.table.proofs.Answers.{decides-true, decides-false}
+use Rattle.image.specs.Form.{form}
+use Rattle.image.specs.Reading.{malformed}
+use Rattle.image.proofs.Product.{wrong-malformed}
+use Rattle.image.proofs.Held.{take-zeros}
+use Rattle.image.proofs.ReadCall.{size-most, read-refused, read-small, read-malformed, overfull-some, read-overfull}
 use borrow.Author.Needs.{needs}
 use Rattle.image.proofs.read.Statement.{statement}
 use Rattle.image.proofs.read.Tie as tie
@@ -18,70 +24,78 @@ same-length c = search needs
 
 returns : tie.Need-returns
 returns c =
-    let t : List ℕ = c .before .before .before .before .before .args .t .now in
-    let bytes : List ℕ = c .before .before .before .before .before .args .image .now in
-    read-refused t bytes 1 (read-small t bytes (sym (c .before .is-bad-size .ensures) ∙ c .if1 .taken)) (omega arith)
+    let s = c .before .before .before .before .before .args in
+    read-refused (s .t .now) (s .image .now) 1 (read-small (s .t .now) (s .image .now) (sym (c .before .is-bad-size .ensures) ∙ c .if1 .taken)) (omega arith)
 
-image-refusal-requires : tie.Need-image-refusal-requires
-image-refusal-requires c κs = search needs
+has-contents-requires : tie.Need-has-contents-requires
+has-contents-requires c κs = search needs
 
 same-length-2 : tie.Need-same-length-2
 same-length-2 c = search needs
 
 returns-2 : tie.Need-returns-2
 returns-2 c =
-    let t : List ℕ = c .before .before .before .before .before .before .before .args .t .now in
-    let bytes : List ℕ = c .before .before .before .before .before .before .before .args .image .now in
-    read-refused t bytes (c .before .image-refusal .result) (read-judged t bytes (sym (c .before .before .before .is-bad-size .ensures) ∙ c .before .before .if1 .left) (c .before .image-refusal .result) (c .before .image-refusal .ensures) (c .if2 .taken)) (c .if2 .taken)
+    let at-contents = c .before in
+    let at-size = at-contents .before .before in
+    let known = at-size .before .before .shared-slice-known .given in
+    let s = at-size .before .before .before .before .args in
+    let wrong = decides-false (at-contents .has-contents .result) (at-contents .has-contents .ensures) (not-true (at-contents .has-contents .result) (c .if2 .taken)) in
+    read-refused (s .t .now) (s .image .now) 12
+    (read-malformed (s .t .now) (s .image .now) (sym (at-size .is-bad-size .ensures) ∙ at-contents .before .if1 .left) (not-false _ (sym (wrong-malformed (s .image .now) (λ i. omega (arith, known i)) wrong)))) (omega arith)
 
-slice-aggregate-fill-words : tie.Need-slice-aggregate-fill-words
-slice-aggregate-fill-words c = search needs
+count-words-requires : tie.Need-count-words-requires
+count-words-requires c κs =
+    let at-contents = c .before in
+    decides-true (at-contents .has-contents .result) (at-contents .has-contents .ensures) (not-false (at-contents .has-contents .result) (c .if2 .left))
 
-fill-words-requires : tie.Need-fill-words-requires
-fill-words-requires c κs =
-    let t : List ℕ = c .before .before .before .before .before .before .before .before .args .t .now in
-    let bytes : List ℕ = c .before .before .before .before .before .before .before .before .args .image .now in
-    let fits = sym (c .before .if2 .left) ∙ c .before .before .image-refusal .ensures in
-    (well-contents bytes (judged-well bytes (length t) fits .0), work-fits t bytes (sym (c .before .before .before .before .is-bad-size .ensures) ∙ c .before .before .before .if1 .left) fits)
-
-slice-aggregate-check : tie.Need-slice-aggregate-check
-slice-aggregate-check c = search needs
-
-check-requires : tie.Need-check-requires
-check-requires c κs = search needs
+overfull-refusal-requires : tie.Need-overfull-refusal-requires
+overfull-refusal-requires c κs =
+    let at-contents = c .before .before .before in
+    decides-true (at-contents .has-contents .result) (at-contents .has-contents .ensures) (not-false (at-contents .has-contents .result) (c .before .before .if2 .left))
 
 same-length-3 : tie.Need-same-length-3
 same-length-3 c = search needs
 
 returns-3 : tie.Need-returns-3
 returns-3 c =
-    let t : List ℕ = c .before .before .before .before .before .before .before .before .before .before .before .before .before .args .t .now in
-    let bytes : List ℕ = c .before .before .before .before .before .before .before .before .before .before .before .before .before .args .image .now in
-    let fits = sym (c .before .before .before .before .before .before .if2 .left) ∙ c .before .before .before .before .before .before .before .image-refusal .ensures in
-    read-refused t bytes (c .before .check .result) (work-answer t bytes (sym (c .before .before .before .before .before .before .before .before .before .is-bad-size .ensures) ∙ c .before .before .before .before .before .before .before .before .if1 .left) fits (c .before .before .before .before .fill-words .last .0) (c .before .before .before .before .fill-words .ensures) (c .before .check .result) (c .before .check .ensures)) (c .if3 .taken)
+    let at-count = c .before .before in
+    let at-size = at-count .before .before .before .before in
+    let s = at-size .before .before .before .before .args in
+    let many = subst (λ n. length (s .t .now) < n) (at-count .count-words .ensures) (c .before .if3 .taken) in
+    read-refused (s .t .now) (s .image .now) (c .overfull-refusal .result)
+    (read-overfull (s .t .now) (s .image .now) (sym (at-size .is-bad-size .ensures) ∙ at-count .before .before .before .if1 .left) many (c .overfull-refusal .result) (c .overfull-refusal .ensures))
+    (overfull-some (malformed product form (s .image .now)) (c .overfull-refusal .result) (c .overfull-refusal .ensures))
 
-slice-aggregate-copy-words : tie.Need-slice-aggregate-copy-words
-slice-aggregate-copy-words c = search needs
+array-borrow-prefix-work : tie.Need-array-borrow-prefix-work
+array-borrow-prefix-work c =
+    let at-size = c .before .before .before .before .before .before in
+    size-most (at-size .before .before .before .before .args .t .now) (sym (at-size .is-bad-size .ensures) ∙ c .before .before .before .before .before .if1 .left)
 
-copy-words-requires : tie.Need-copy-words-requires
-copy-words-requires c κs =
-    let t : List ℕ = c .before .before .before .before .before .before .before .before .before .before .before .before .before .before .before .args .t .now in
-    let bytes : List ℕ = c .before .before .before .before .before .before .before .before .before .before .before .before .before .before .before .args .image .now in
-    let fits = sym (c .before .before .before .before .before .before .before .before .if2 .left) ∙ c .before .before .before .before .before .before .before .before .before .image-refusal .ensures in
-    work-room t bytes (sym (c .before .before .before .before .before .before .before .before .before .before .before .is-bad-size .ensures) ∙ c .before .before .before .before .before .before .before .before .before .before .if1 .left) fits (c .before .before .before .before .before .before .fill-words .last .0) (c .before .before .before .before .before .before .fill-words .ensures)
+slice-aggregate-read-through : tie.Need-slice-aggregate-read-through
+slice-aggregate-read-through c =
+    let at-size = c .before .before .before .before .before .before .before in
+    sym (length-take-le _ _ (size-most (at-size .before .before .before .before .args .t .now) (sym (at-size .is-bad-size .ensures) ∙ c .before .before .before .before .before .before .if1 .left)))
+
+read-through-requires : tie.Need-read-through-requires
+read-through-requires c κs =
+    let at-count = c .before .before .before in
+    let at-contents = at-count .before .before in
+    let at-size = at-contents .before .before in
+    let s = at-size .before .before .before .before .args in
+    let sized = sym (at-size .is-bad-size .ensures) ∙ at-contents .before .if1 .left in (
+      record {
+        contents = decides-true (at-contents .has-contents .result) (at-contents .has-contents .ensures) (not-false (at-contents .has-contents .result) (at-count .before .if2 .left));
+        fits = subst (λ n. n ≤ length (s .t .now)) (at-count .count-words .ensures) (c .before .before .if3 .left);
+        size = sized;
+      },
+      take-zeros (product .most) (length (s .t .now)) (size-most (s .t .now) sized),
+    )
 
 same-length-4 : tie.Need-same-length-4
 same-length-4 c = search needs
 
 returns-4 : tie.Need-returns-4
-returns-4 c =
-    let t : List ℕ = c .before .before .before .before .before .before .before .before .before .before .before .before .before .before .before .before .before .before .args .t .now in
-    let bytes : List ℕ = c .before .before .before .before .before .before .before .before .before .before .before .before .before .before .before .before .before .before .args .image .now in
-    let size = sym (c .before .before .before .before .before .before .before .before .before .before .before .before .before .before .is-bad-size .ensures) ∙ c .before .before .before .before .before .before .before .before .before .before .before .before .before .if1 .left in
-    let fits = sym (c .before .before .before .before .before .before .before .before .before .before .before .if2 .left) ∙ c .before .before .before .before .before .before .before .before .before .before .before .before .image-refusal .ensures in
-    let work : List ℕ = c .before .before .before .before .before .before .before .before .before .fill-words .last .0 in
-    read-done t bytes (work-answer t bytes size fits work (c .before .before .before .before .before .before .before .before .before .fill-words .ensures) 0 (sym (c .before .before .before .before .before .if3 .left) ∙ c .before .before .before .before .before .before .check .ensures))
-    (c .before .before .copy-words .last .0) (c .before .before .copy-words .ensures ∙ work-copied t bytes size fits work (c .before .before .before .before .before .before .before .before .before .fill-words .ensures))
+returns-4 c = search needs
 
 pub read-spec : {M : Type 1} → statement M
 read-spec =
@@ -90,16 +104,15 @@ read-spec =
     is-bad-size-requires
     same-length
     returns
-    image-refusal-requires
+    has-contents-requires
     same-length-2
     returns-2
-    slice-aggregate-fill-words
-    fill-words-requires
-    slice-aggregate-check
-    check-requires
+    count-words-requires
+    overfull-refusal-requires
     same-length-3
     returns-3
-    slice-aggregate-copy-words
-    copy-words-requires
+    array-borrow-prefix-work
+    slice-aggregate-read-through
+    read-through-requires
     same-length-4
     returns-4)

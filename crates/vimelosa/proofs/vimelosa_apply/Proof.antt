@@ -1,6 +1,6 @@
 -- `vimelosa_apply`: each way through it, in the order of its steps. Assumes nothing.
 use mathlib.Core.Path.{sym, _∙_}
-use Rattle.vimelosa.proofs.Host.{read-table, way-unread, way-unapplied, way-unwritten, way-done}
+use Rattle.vimelosa.proofs.Host.{read-table, left-table, way-unread, way-unapplied, way-unwritten, way-done}
 use borrow.Author.Needs.{needs}
 use Rattle.vimelosa.proofs.vimelosa_apply.Statement.{statement}
 use Rattle.vimelosa.proofs.vimelosa_apply.Tie as tie
@@ -39,11 +39,15 @@ returns-2 c =
     let s = d .before .before .before .before .before .args in
     way-unapplied (s .image .now) (s .ticket .now) (s .output .now) (sym (d .read .ensures .0) ∙ e .before .before .if1 .left) (d .read .ensures .1) (e .apply-checked .result) (e .apply-checked .ensures) (c .pack2 .result) (c .before .if2 .taken) (c .pack2 .ensures)
 
-slice-aggregate-write : tie.Need-slice-aggregate-write
-slice-aggregate-write c = search needs
+slice-aggregate-write-checked : tie.Need-slice-aggregate-write-checked
+slice-aggregate-write-checked c = search needs
 
-write-requires : tie.Need-write-requires
-write-requires c κs = search needs
+write-checked-requires : tie.Need-write-checked-requires
+write-checked-requires c κs =
+    let e = c .before .before .before .before .before in
+    let d = e .before .before .before .before in
+    let s = d .before .before .before .before .before .args in
+    left-table (s .ticket .now) (read-table (s .image .now) (d .read .result) (d .read .ensures .0) (e .before .before .if1 .left) (d .read .ensures .1)) (e .apply-checked .result) (e .apply-checked .ensures)
 
 pack-requires-3 : tie.Need-pack-requires-3
 pack-requires-3 c κs = search needs
@@ -58,7 +62,7 @@ returns-3 c =
     let d = e .before .before .before .before in
     let s = d .before .before .before .before .before .args in
     way-unwritten (s .image .now) (s .ticket .now) (s .output .now) (sym (d .read .ensures .0) ∙ e .before .before .if1 .left) (d .read .ensures .1) (e .apply-checked .result) (e .apply-checked .ensures) (w .before .before .before .if2 .left)
-    (w .write .result .answer) (w .write .result .length) (w .write .last .1 .0) (w .write .ensures .0) (w .write .ensures .1) (w .write .ensures .2) (c .pack3 .result) (c .before .if3 .taken) (c .pack3 .ensures)
+    (w .write-checked .result .answer) (w .write-checked .result .length) (w .write-checked .last .1 .0) (w .write-checked .ensures .0) (w .write-checked .ensures .1) (w .write-checked .ensures .2) (c .pack3 .result) (c .before .if3 .taken) (c .pack3 .ensures)
 
 pack-requires-4 : tie.Need-pack-requires-4
 pack-requires-4 c κs = search needs
@@ -73,7 +77,7 @@ returns-4 c =
     let d = e .before .before .before .before in
     let s = d .before .before .before .before .before .args in
     way-done (s .image .now) (s .ticket .now) (s .output .now) (sym (d .read .ensures .0) ∙ e .before .before .if1 .left) (d .read .ensures .1) (e .apply-checked .result) (e .apply-checked .ensures) (w .before .before .before .if2 .left)
-    (w .write .result .answer) (w .write .result .length) (w .write .last .1 .0) (w .write .ensures .0) (w .write .ensures .1) (w .write .ensures .2) (c .pack4 .result) (c .before .if3 .left) (c .pack4 .ensures)
+    (w .write-checked .result .answer) (w .write-checked .result .length) (w .write-checked .last .1 .0) (w .write-checked .ensures .0) (w .write-checked .ensures .1) (w .write-checked .ensures .2) (c .pack4 .result) (c .before .if3 .left) (c .pack4 .ensures)
 
 pub vimelosa-apply-spec : {M : Type 1} → statement M
 vimelosa-apply-spec =
@@ -87,8 +91,8 @@ vimelosa-apply-spec =
     apply-checked-requires
     pack-requires-2
     returns-2
-    slice-aggregate-write
-    write-requires
+    slice-aggregate-write-checked
+    write-checked-requires
     pack-requires-3
     same-length
     returns-3

@@ -1,0 +1,62 @@
+-- The words that bytes give, in a table with zeros after them. Assumes nothing.
+use Prim.Native.Nat.{ℕ, zero, suc, _-_, _≤_, _<_}
+use mathlib.Core.Path.{_≡_, refl, sym, ap, _∙_}
+use mathlib.Core.Bool.{false, not, _&&_, _||_}
+use mathlib.Core.List.{List, [], _∷_, _++_, map}
+use native.Mathlib.Omega.{arith}
+use native.Mathlib.Nat.{sub-zero, suc-sub-suc}
+use lib.Dec.{ltb, leb}
+use lib.ListN.{length, take, drop, replicate}
+use Rattle.rdfs.specs.Numbers.{product}
+use Rattle.rdfs.specs.Lists.{_∈_, here, there}
+use Rattle.rdfs.specs.Clashes.{consistent?}
+use Rattle.rdfs.specs.Words.{fact, isFact, laidOut, filled, padded}
+use Rattle.rdfs.specs.Register.{orElse, badSize, badLayout, inconsistent, tableRefusal}
+use Rattle.rdfs.proofs.Lists.{none-in}
+use Rattle.rdfs.proofs.LaidOut.{filled-before, laid-from}
+use Rattle.rdfs.proofs.Tables.{padded-length}
+use Rattle.rdfs.proofs.Theorems.{product-sound}
+use Rattle.table.proofs.Answers.{is-true}
+use Rattle.image.specs.Form.{form}
+use Rattle.image.specs.Reading.{wordsOf}
+use Rattle.image.proofs.RoundTrip.{words-some, words-full}
+use Rattle.image.proofs.Climbing.{open-up}
+
+-- Zeros.
+pub drop-zeros : (m n : ℕ) → drop n (replicate m 0) ≡ replicate {A = ℕ} (m - n) 0
+drop-zeros m zero = ap (λ k. replicate k 0) (sym (sub-zero m))
+drop-zeros zero (suc n) = let none : 0 - suc n ≡ 0 = omega arith in ap (λ k. replicate k 0) (sym none)
+drop-zeros (suc m) (suc n) = drop-zeros m n ∙ ap (λ k. replicate k 0) (sym (suc-sub-suc m n))
+
+pub take-zeros : (m n : ℕ) → n ≤ m → take n (replicate m 0) ≡ replicate {A = ℕ} n 0
+take-zeros m zero h = refl
+take-zeros zero (suc n) h = absurd (omega arith)
+take-zeros (suc m) (suc n) h = ap (λ l. 0 ∷ l) (take-zeros m n (omega arith))
+
+-- Words that are no zeros are laid out if they are with zeros after them, and only then.
+laid-before : (last : ℕ) (l : List ℕ) (m : ℕ) → ((x : ℕ) → x ∈ l → 0 < x) → laidOut product (suc last) (l ++ replicate m 0) ≡ laidOut product (suc last) l
+laid-before last [] m h = is-true {b = laidOut product (suc last) (replicate m 0)} (laid-from product (suc last) [] m (omega arith) tt (λ x k. absurd (none-in k)))
+laid-before last (w ∷ l) m h =
+    let some : 0 < w = h w (here refl) in
+    open-up last w (l ++ replicate m 0) some
+    ∙ (ap (λ b. leb (suc last) w && (isFact product w && b)) (laid-before w l m (λ x k. h x (there k))) ∙ sym (open-up last w l some))
+
+-- A table of right size that holds the words of some bytes, then zeros.
+module _ (t bytes : List ℕ) (size : badSize product t ≡ false) (h : length (wordsOf product form bytes) ≤ length t) where
+  abbrev l : List ℕ
+  l = wordsOf product form bytes
+
+  abbrev held : List ℕ
+  held = padded (length t) l
+
+  pub held-filled : filled held ≡ l
+  held-filled = filled-before l (length t - length l) (words-some product form product-sound bytes)
+
+  -- Its refusals are those of the words.
+  pub held-checked : tableRefusal product held 0 ≡ orElse (badLayout product l) 2 (orElse (inconsistent product l) 3 0)
+  held-checked =
+      let sized : badSize product held ≡ false = ap (λ n. leb n 0 || ltb (product .most) n) (padded-length (length t) l h) ∙ size in
+      let laid : badLayout product held ≡ badLayout product l = ap not (laid-before 0 l (length t - length l) (words-some product form product-sound bytes)) in
+      let same : inconsistent product held ≡ inconsistent product l = ap (λ m. not (consistent? (map (fact (product .base)) m))) (held-filled ∙ sym (words-full product form product-sound bytes)) in
+      ap (λ b. orElse b 1 (orElse (badLayout product held) 2 (orElse (inconsistent product held) 3 0))) sized
+      ∙ (ap (λ b. orElse b 2 (orElse (inconsistent product held) 3 0)) laid ∙ ap (λ b. orElse (badLayout product l) 2 (orElse b 3 0)) same)
