@@ -1,41 +1,23 @@
 -- A walk over the facts of a body, and over the bodies: their words are laid out if the rest is, from above the last word on. Assumes nothing.
-use Prim.Native.Nat.{ℕ, zero, suc, _+_, _*_, _-_, _≤_, _<_}
+use Prim.Native.Nat.{ℕ, suc, _+_, _*_, _-_, _≤_, _<_}
 use mathlib.Core.Path.{_≡_, refl, sym, ap, _∙_}
-use mathlib.Core.Bool.{Bool, true, false, _&&_, cond}
+use mathlib.Core.Bool.{true, false}
 use mathlib.Core.List.{List, _∷_, _++_}
 use native.Mathlib.Omega.{arith}
 use native.Mathlib.Nat.{mul-le-mul-left}
-use lib.Dec.{eqb, leb, lit<}
-use borrow.Author.Tests.{le-leb, lt-leb, ne-eqb}
+use lib.Dec.{lit<}
 use Rattle.rdfs.specs.Numbers.{product}
-use Rattle.rdfs.specs.Lists.{all, concatMap}
+use Rattle.rdfs.specs.Lists.{concatMap}
 use Rattle.rdfs.specs.Facts.{made}
 use Rattle.rdfs.specs.Words.{isFact, laidOut}
 use Rattle.rdfs.proofs.Digits.{word-some}
+use Rattle.table.proofs.Rising.{laid-on, laid-low, laid-no-fact, zeros-not}
 use Rattle.image.specs.Form.{form, factSize, kindsAfter}
 use Rattle.image.specs.Reading.{startAt, countAt, idAt, wordAt, wordsFrom, wordsIn, wordsOf}
 use Rattle.image.specs.Rising.{laidAfter, RisesTo}
 use Rattle.image.specs.declared.bodies.Rise.{Rise}
 use Rattle.image.specs.declared.bodies.Rise.the-variants.{To, Broken}
 use Rattle.image.proofs.Linking.{kinds-more, kinds-done}
-
--- The first of some words, which is no zero: above the last word and a fact, or the words are not laid out.
-module _ (last w : ℕ) (l : List ℕ) (some : 0 < w) where
-  pub open-up : laidOut product (suc last) (w ∷ l) ≡ (leb (suc last) w && (isFact product w && laidOut product (suc w) l))
-  open-up = ap (λ b. cond b (all (λ x. eqb x 0) l) (leb (suc last) w && (isFact product w && laidOut product (suc w) l))) (ne-eqb w 0 (omega arith))
-
-  laid-more : last < w → isFact product w ≡ true → laidOut product (suc last) (w ∷ l) ≡ laidOut product (suc w) l
-  laid-more h e = open-up ∙ (ap (λ b. b && (isFact product w && laidOut product (suc w) l)) (le-leb (suc last) w h) ∙ ap (λ b. b && laidOut product (suc w) l) e)
-
-  laid-low : w ≤ last → laidOut product (suc last) (w ∷ l) ≡ false
-  laid-low h = open-up ∙ ap (λ b. b && (isFact product w && laidOut product (suc w) l)) (lt-leb (suc last) w (omega arith))
-
-  laid-no-fact : isFact product w ≡ false → laidOut product (suc last) (w ∷ l) ≡ false
-  laid-no-fact e = open-up ∙ and-false (leb (suc last) w) (ap (λ b. b && laidOut product (suc w) l) e)
-    where
-      and-false : (a : Bool) {b : Bool} → b ≡ false → (a && b) ≡ false
-      and-false true e = e
-      and-false false e = refl
 
 module _ (bytes : List ℕ) (k : ℕ) where
   word-at-some : (p : ℕ) → 0 < wordAt product form bytes k p
@@ -75,14 +57,14 @@ module _ (bytes : List ℕ) (k : ℕ) where
       climb-more u t size s = record {
         within = omega arith;
         place = omega (arith, c .place, s);
-        rest = λ r. first r ∙ (laid-more top w (left ++ r) some u t ∙ ap (λ n. laidOut product (suc w) (wordsFrom product form bytes k (count - (i + 1)) (p + n) ++ r)) (sym s));
+        rest = λ r. first r ∙ (laid-on (suc top) w (left ++ r) u some t ∙ ap (λ n. laidOut product (suc w) (wordsFrom product form bytes k (count - (i + 1)) (p + n) ++ r)) (sym s));
       }
 
       pub climb-low : w ≤ top → (r : List ℕ) → RisesTo last (wordsFrom product form bytes k count from) r Broken
-      climb-low u r = first r ∙ laid-low top w (left ++ r) some u
+      climb-low u r = first r ∙ (laid-low (suc top) w (left ++ r) (omega arith) ∙ zeros-not (suc top) w (left ++ r) some)
 
       pub climb-no-fact : isFact product w ≡ false → (r : List ℕ) → RisesTo last (wordsFrom product form bytes k count from) r Broken
-      climb-no-fact t r = first r ∙ laid-no-fact top w (left ++ r) some t
+      climb-no-fact t r = first r ∙ (laid-no-fact (suc top) w (left ++ r) t ∙ zeros-not (suc top) w (left ++ r) some)
 
     pub climb-end : count ≤ i → (r : List ℕ) → RisesTo last (wordsFrom product form bytes k count from) r (To top)
     climb-end h r = let none : count - i ≡ 0 = omega arith in c .rest r ∙ ap (λ n. laidOut product (suc top) (wordsFrom product form bytes k n p ++ r)) none

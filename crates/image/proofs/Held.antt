@@ -17,10 +17,10 @@ use Rattle.rdfs.proofs.LaidOut.{filled-before, laid-from}
 use Rattle.rdfs.proofs.Tables.{padded-length}
 use Rattle.rdfs.proofs.Theorems.{product-sound}
 use Rattle.table.proofs.Answers.{is-true}
+use Rattle.table.proofs.Rising.{laid-some}
 use Rattle.image.specs.Form.{form}
 use Rattle.image.specs.Reading.{wordsOf}
 use Rattle.image.proofs.RoundTrip.{words-some, words-full}
-use Rattle.image.proofs.Climbing.{open-up}
 
 -- Zeros.
 pub drop-zeros : (m n : ℕ) → drop n (replicate m 0) ≡ replicate {A = ℕ} (m - n) 0
@@ -38,8 +38,8 @@ laid-before : (last : ℕ) (l : List ℕ) (m : ℕ) → ((x : ℕ) → x ∈ l �
 laid-before last [] m h = is-true {b = laidOut product (suc last) (replicate m 0)} (laid-from product (suc last) [] m (omega arith) tt (λ x k. absurd (none-in k)))
 laid-before last (w ∷ l) m h =
     let some : 0 < w = h w (here refl) in
-    open-up last w (l ++ replicate m 0) some
-    ∙ (ap (λ b. leb (suc last) w && (isFact product w && b)) (laid-before w l m (λ x k. h x (there k))) ∙ sym (open-up last w l some))
+    laid-some (suc last) w (l ++ replicate m 0) some
+    ∙ (ap (λ b. leb (suc last) w && (isFact product w && b)) (laid-before w l m (λ x k. h x (there k))) ∙ sym (laid-some (suc last) w l some))
 
 -- A table of right size that holds the words of some bytes, then zeros.
 module _ (t bytes : List ℕ) (size : badSize product t ≡ false) (h : length (wordsOf product form bytes) ≤ length t) where

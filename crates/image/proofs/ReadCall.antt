@@ -27,11 +27,6 @@ pub else-none : (b : Bool) (n rest : ℕ) → (n ≡ 0 → ⊥) → orElse b n r
 else-none true n rest h e = absurd (h e)
 else-none false n rest h e = (refl, e)
 
--- A refusal among the first does not ask for the rest.
-pub else-some : (b : Bool) (n r : ℕ) (rest more : ℕ) → orElse b n rest ≡ r → (rest ≡ r → more ≡ r) → orElse b n more ≡ r
-else-some true n r rest more e f = e
-else-some false n r rest more e f = f e
-
 -- Another refusal in the first place.
 else-is : (b : Bool) (n m r rest : ℕ) → orElse b n rest ≡ r → r ≡ n → (rest ≡ n → ⊥) → m ≡ orElse b m rest
 else-is true n m r rest e q h = refl

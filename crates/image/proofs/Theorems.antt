@@ -11,10 +11,11 @@ use Rattle.rdfs.specs.Numbers.{Numbers, Sound, product}
 use Rattle.rdfs.specs.Lists.{_∈_}
 use Rattle.rdfs.specs.Clashes.{consistent?}
 use Rattle.rdfs.specs.Words.{fact, laidOut, filled, padded}
-use Rattle.rdfs.specs.Register.{orElse, badSize, badLayout, inconsistent, tableRefusal}
+use Rattle.rdfs.specs.Register.{orElse, badSize, badLayout, inconsistent, tableRefusal, Table}
 use Rattle.rdfs.proofs.LaidOut.{laid-shape}
+use Rattle.rdfs.proofs.Steps.{table-sane, checked-table}
 use Rattle.rdfs.proofs.Theorems.{product-sound}
-use Rattle.table.proofs.Answers.{is-true}
+use Rattle.table.proofs.Answers.{is-true, is-false}
 use Rattle.table.proofs.Filled.{filled-within}
 use Rattle.image.specs.Form.{Form, Proper, form, kinds}
 use Rattle.image.specs.Image.{bodyOf, imageOf}
@@ -24,7 +25,6 @@ use Rattle.image.proofs.RoundTrip.{words-again, written-well, read-well
 use Rattle.image.proofs.Product.{proper}
 use Rattle.image.proofs.Held.{held-filled, held-checked}
 use Rattle.image.proofs.ReadCall.{else-none, read-done, read-fitting}
-use Rattle.image.proofs.WriteCall.{accepted-laid, accepted-consistent}
 
 -- For any numbers and any form with an entry for each kind: an image that was written is well formed and gives its words.
 pub written-reads : (N : Numbers) (F : Form) → Sound N → Proper F → 10 ≤ F .entries → (l : List ℕ) → Facts N l
@@ -46,18 +46,19 @@ pub image-reads-back : (t u : List ℕ) → 0 ≡ tableRefusal product t 0 → b
 image-reads-back t u e size h =
     let l : List ℕ = filled t in
     let bytes : List ℕ = tableImage t in
-    let f : Facts product l = filled-facts product product-sound t (accepted-laid t e) in
+    let table : Table product t = checked-table product t (sym e) in
+    let f : Facts product l = filled-facts product product-sound t (table .laid) in
     let r = written-reads product form product-sound proper (lit≤ tt) l f in
     let fits : length (wordsOf product form bytes) ≤ length u = subst (λ m. length m ≤ length u) (sym (r .0)) h in
-    let same : inconsistent product (wordsOf product form bytes) ≡ false = ap (inconsistent product) (r .0) ∙ (ap (λ m. not (consistent? (map (fact (product .base)) m))) (f .full) ∙ accepted-consistent t e) in
+    let same : inconsistent product (wordsOf product form bytes) ≡ false = ap (inconsistent product) (r .0) ∙ (ap (λ m. not (consistent? (map (fact (product .base)) m))) (f .full) ∙ is-false (table-sane product t table .rules)) in
     let none : readAnswer u bytes ≡ 0 = read-fitting u bytes size fits ∙ (ap (λ b. orElse b 12 (orElse (inconsistent product (wordsOf product form bytes)) 3 0)) (r .1) ∙ ap (λ b. orElse b 3 0) same) in
     read-done u bytes (sym none) (padded (length u) l) (ap (padded (length u)) (sym (r .0)))
 
 -- Read into a table of its own length it is the same table.
 pub table-reads-back : (t u : List ℕ) → 0 ≡ tableRefusal product t 0 → badSize product u ≡ false → length t ≡ length u → t ≡ readWords u (tableImage t)
 table-reads-back t u e size h =
-    laid-shape product t (accepted-laid t e) ∙ (ap (λ n. padded n (filled t)) h
-    ∙ image-reads-back t u e size (subst (λ n. length (filled t) ≤ n) h (filled-within product t (accepted-laid t e))) .1)
+    let laid = checked-table product t (sym e) .laid in
+    laid-shape product t laid ∙ (ap (λ n. padded n (filled t)) h ∙ image-reads-back t u e size (subst (λ n. length (filled t) ≤ n) h (filled-within product t laid)) .1)
 
 -- Bytes that are read are exactly the image that writing gives for the table read, which writing does not refuse.
 pub read-writes : (t bytes : List ℕ) → 0 ≡ readAnswer t bytes → (bytes ≡ tableImage (readWords t bytes)) × (0 ≡ tableRefusal product (readWords t bytes) 0)

@@ -12,15 +12,14 @@ use borrow.Author.Tests.{ltb-false}
 use Rattle.rdfs.specs.Numbers.{product, recordLength}
 use Rattle.rdfs.specs.Register.{orElse, tableRefusal, Done, run, cut, register, Table}
 use Rattle.rdfs.proofs.Cut.{cut-length}
+use Rattle.rdfs.proofs.Steps.{checked-table, table-passes, table-stops}
 use Rattle.ticket.specs.Form.{bytesOf}
 use Rattle.ticket.specs.declared.form.Ticket.{Ticket}
-use Rattle.ticket.proofs.Answers.{checked-table}
 use Rattle.list.specs.declared.Listed.{Listed}
 use Rattle.list.specs.Listing.{acceptedOf, refusedOf, refusalOf, listingBy, listing, ListAnswered, recordBytes}
 use Rattle.list.specs.Loops.{ticketsIn, AllRun, listedOf, turnsOf}
 use Rattle.list.proofs.CutOff.{cut-records}
 use Rattle.list.proofs.Runs.{register-numbers, all-counted}
-use Rattle.list.proofs.Taken.{table-passes, table-stops}
 
 pub tickets-counted : (bytes : List ℕ) → ticketsIn (length bytes) ≡ length (cut recordLength bytes)
 tickets-counted bytes = sym (cut-length recordLength (omega arith) bytes)
@@ -29,15 +28,15 @@ tickets-counted bytes = sym (cut-length recordLength (omega arith) bytes)
 module _ (w : List ℕ) (n room : ℕ) (e : refusalOf w n room ≡ 0) where
   taken-table : Table product w
   taken-table = elim (ℕ-discrete (tableRefusal product w 0) 0) [
-    | yes h ↦ checked-table w h
-    | no h ↦ checked-table w (table-stops w (orElse (ltb room n) 14 0) h ∙ e)
+    | yes h ↦ checked-table product w h
+    | no h ↦ checked-table product w (table-stops product w (orElse (ltb room n) 14 0) h ∙ e)
   ]
 
   taken-room : n ≤ room
   taken-room = go (ltb room n) refl
     where
       go : (b : Bool) → ltb room n ≡ b → n ≤ room
-      go true q = absurd (omega (arith, sym (table-passes w taken-table 14) ∙ (ap (λ b. tableRefusal product w (orElse b 14 0)) (sym q) ∙ e)))
+      go true q = absurd (omega (arith, sym (table-passes product w taken-table 14) ∙ (ap (λ b. tableRefusal product w (orElse b 14 0)) (sym q) ∙ e)))
       go false q = omega (arith, ltb-false room n q)
 
 module _ (w bytes answers : List ℕ) {n a : ℕ} {v : List ℕ} (tickets : n ≡ length (cut recordLength bytes)) (judged : a ≡ refusalOf w n (length answers)) (kept : v ≡ w) where

@@ -8,38 +8,21 @@ use lib.Dec.{ltb}
 use lib.ListN.{length}
 use borrow.Author.Tests.{le-ltb, ltb-false}
 use Rattle.rdfs.specs.Numbers.{product, recordLength}
-use Rattle.rdfs.specs.Register.{orElse, badSize, badLayout, inconsistent, tableRefusal, Done, cut, register, Table}
-use Rattle.rdfs.proofs.Refusals.{pass-link}
-use Rattle.rdfs.proofs.Steps.{table-sane}
+use Rattle.rdfs.specs.Register.{orElse, cut, register, Table}
+use Rattle.rdfs.proofs.Steps.{table-passes}
 use Rattle.list.specs.declared.Listed.{Listed}
 use Rattle.list.specs.Listing.{listRefusal, listingBy, listing, ListAnswered}
 use Rattle.list.specs.Demand3.{Ran}
 
--- Refusals 1 to 3 do not hold of a consistent table.
-pub table-passes : (w : List ℕ) → Table product w → (rest : ℕ) → tableRefusal product w rest ≡ rest
-table-passes w t rest =
-    let s = table-sane product w t in
-    pass-link (badSize product w) 1 _ (s .size) ∙ (pass-link (badLayout product w) 2 _ (s .layout) ∙ pass-link (inconsistent product w) 3 rest (s .rules))
-
--- One of them that holds is the answer, whatever comes after.
-pub table-stops : (w : List ℕ) (rest : ℕ) → (tableRefusal product w 0 ≡ 0 → ⊥) → tableRefusal product w 0 ≡ tableRefusal product w rest
-table-stops w rest n = go (badSize product w) (badLayout product w) (inconsistent product w) n
-  where
-    go : (a b c : Bool) → (orElse a 1 (orElse b 2 (orElse c 3 0)) ≡ 0 → ⊥) → orElse a 1 (orElse b 2 (orElse c 3 0)) ≡ orElse a 1 (orElse b 2 (orElse c 3 rest))
-    go true b c h = refl
-    go false true c h = refl
-    go false false true h = refl
-    go false false false h = absurd (h refl)
-
 module _ (w bytes answers : List ℕ) (t : Table product w) where
   pub room-runs : length (cut recordLength bytes) ≤ length answers → listRefusal w bytes answers ≡ 0
-  room-runs h = table-passes w t _ ∙ ap (λ b. orElse b 14 0) (le-ltb (length answers) (length (cut recordLength bytes)) h)
+  room-runs h = table-passes product w t _ ∙ ap (λ b. orElse b 14 0) (le-ltb (length answers) (length (cut recordLength bytes)) h)
 
   pub not-14-room : (listRefusal w bytes answers ≡ 14 → ⊥) → length (cut recordLength bytes) ≤ length answers
   not-14-room n = go (ltb (length answers) (length (cut recordLength bytes))) refl
     where
       go : (b : Bool) → ltb (length answers) (length (cut recordLength bytes)) ≡ b → length (cut recordLength bytes) ≤ length answers
-      go true e = absurd (n (table-passes w t _ ∙ ap (λ b. orElse b 14 0) e))
+      go true e = absurd (n (table-passes product w t _ ∙ ap (λ b. orElse b 14 0) e))
       go false e = omega (arith, ltb-false (length answers) (length (cut recordLength bytes)) e)
 
 -- A call that is not refused.

@@ -1,12 +1,12 @@
 -- One ticket on a consistent table: what it leaves, refused or accepted. Assumes nothing.
 use Prim.Native.Nat.{ℕ, zero, suc, _≤_, _<_}
 use mathlib.Core.Path.{_≡_, refl, sym, ap, subst, _∙_}
-use mathlib.Core.Bool.{Bool, not}
+use mathlib.Core.Bool.{Bool, true, false, not}
 use mathlib.Core.Logic.{_⊎_, inl, inr, ⊎-elim}
 use mathlib.Core.List.{List}
 use native.Mathlib.Omega.{arith}
 use native.Mathlib.Decide.{ℕ-discrete}
-use lib.Dec.{T, eqb, ltb, leb, eqb→eq, T-not, not-T, leb→le, ltb→lt, nltb→le}
+use lib.Dec.{T, eqb, ltb, leb, eqb→eq, T-not, not-T, leb→le, ltb→lt, nltb→le, nleb→lt}
 use lib.ListN.{length}
 use Rattle.rdfs.specs.Numbers.{Numbers, Sound, recordLength}
 use Rattle.rdfs.specs.Lists.{_∈_, _⊆_}
@@ -15,23 +15,51 @@ use Rattle.rdfs.specs.Consistency.{Consistent}
 use Rattle.rdfs.specs.Words.{laidOut, filled, facts, words, padded}
 use Rattle.rdfs.specs.Clashes.{consistent?}
 use Rattle.rdfs.specs.Tickets.{badLength}
-use Rattle.rdfs.specs.Register.{Answer, answer, besides, step, badSize, badLayout, inconsistent, tooMany, Table}
-use Rattle.rdfs.proofs.Tests.{or-either}
+use Rattle.rdfs.specs.Register.{Answer, answer, orElse, besides, step, badSize, badLayout, inconsistent, tableRefusal, tooMany, Table}
+use Rattle.rdfs.proofs.Tests.{or-either, either-or}
 use Rattle.rdfs.proofs.Parts.{All, consistent-same}
 use Rattle.rdfs.proofs.Allowed.{Allowed}
 use Rattle.rdfs.proofs.Tables.{padded-length, facts-padded, laid-padded, words-same, filled-padded}
 use Rattle.rdfs.proofs.LaidOut.{laid-allowed}
 use Rattle.rdfs.proofs.Decision.{check-sound, check-complete}
 use Rattle.rdfs.proofs.TicketTests.{stands}
-use Rattle.rdfs.proofs.Refusals.{Sane, new, refusal, passed, pass-link, stop-link}
+use Rattle.rdfs.proofs.Refusals.{Sane, new, refusal, passed, passed-link, pass-link, stop-link}
 
--- A consistent table passes the first three refusals, and only such a one.
+-- A consistent table passes the first three refusals.
 pub table-sane : (N : Numbers) (w : List ℕ) → Table N w → Sane N w
 table-sane N w t = record {
   size = λ h. ⊎-elim (λ q. omega (arith, leb→le (length w) 0 q, t .some)) (λ q. omega (arith, ltb→lt (N .most) (length w) q, t .fits)) (or-either (leb (length w) 0) (ltb (N .most) (length w)) h);
   layout = λ h. T-not (laidOut N 1 w) h (t .laid);
   rules = λ h. T-not (consistent? (facts N w)) h (check-complete (facts N w) (t .consistent));
 }
+
+pub table-passes : (N : Numbers) (w : List ℕ) → Table N w → (rest : ℕ) → tableRefusal N w rest ≡ rest
+table-passes N w t rest =
+    let s = table-sane N w t in
+    pass-link (badSize N w) 1 _ (s .size) ∙ (pass-link (badLayout N w) 2 _ (s .layout) ∙ pass-link (inconsistent N w) 3 rest (s .rules))
+
+-- Words that pass them are one.
+pub checked-table : (N : Numbers) (w : List ℕ) → tableRefusal N w 0 ≡ 0 → Table N w
+checked-table N w e =
+    let p1 = passed-link (badSize N w) 1 _ 0 (omega arith) e in
+    let p2 = passed-link (badLayout N w) 2 _ 0 (omega arith) (p1 .1) in
+    let p3 = passed-link (inconsistent N w) 3 _ 0 (omega arith) (p2 .1) in
+    record {
+      some = nleb→lt (length w) 0 (not-T (leb (length w) 0) (λ h. p1 .0 (either-or (leb (length w) 0) (ltb (N .most) (length w)) (inl h))));
+      fits = nltb→le (N .most) (length w) (not-T (ltb (N .most) (length w)) (λ h. p1 .0 (either-or (leb (length w) 0) (ltb (N .most) (length w)) (inr h))));
+      laid = stands (laidOut N 1 w) (p2 .0);
+      consistent = check-sound (facts N w) (stands (consistent? (facts N w)) (p3 .0));
+    }
+
+-- One of them that holds is the answer, whatever comes after.
+pub table-stops : (N : Numbers) (w : List ℕ) (rest : ℕ) → (tableRefusal N w 0 ≡ 0 → ⊥) → tableRefusal N w 0 ≡ tableRefusal N w rest
+table-stops N w rest n = go (badSize N w) (badLayout N w) (inconsistent N w) n
+  where
+    go : (a b c : Bool) → (orElse a 1 (orElse b 2 (orElse c 3 0)) ≡ 0 → ⊥) → orElse a 1 (orElse b 2 (orElse c 3 0)) ≡ orElse a 1 (orElse b 2 (orElse c 3 rest))
+    go true b c h = refl
+    go false true c h = refl
+    go false false true h = refl
+    go false false false h = absurd (h refl)
 
 pub table-allowed : (N : Numbers) → Sound N → (w : List ℕ) → Table N w → All (Allowed (N .top)) (facts N w)
 table-allowed N s w t = laid-allowed N w (t .laid)

@@ -21,25 +21,30 @@ pub record Walk (t : List ℕ) (i last : ℕ) : Type 0 where
 pub walk-start : (t : List ℕ) → Walk t 0 0
 walk-start t = record { within = omega arith; rest = refl }
 
--- The first word of the rest, by what it is.
-laid-on : (least w : ℕ) (l : List ℕ) → least ≤ w → 0 < w → isFact product w ≡ true → laidOut product least (w ∷ l) ≡ laidOut product (suc w) l
-laid-on least w l h p e =
-    ap (λ b. cond b (zeros l) (leb least w && (isFact product w && laidOut product (suc w) l))) (ne-eqb w 0 (omega arith))
-    ∙ (ap (λ b. b && (isFact product w && laidOut product (suc w) l)) (le-leb least w h) ∙ ap (λ b. b && laidOut product (suc w) l) e)
+-- The first of some words, by what it is.
+module _ (least w : ℕ) (l : List ℕ) where
+  pub laid-some : 0 < w → laidOut product least (w ∷ l) ≡ (leb least w && (isFact product w && laidOut product (suc w) l))
+  laid-some p = ap (λ b. cond b (zeros l) (leb least w && (isFact product w && laidOut product (suc w) l))) (ne-eqb w 0 (omega arith))
 
-either-zero : (b rest : Bool) (l : List ℕ) → rest ≡ false → cond b (zeros l) rest ≡ (b && zeros l)
-either-zero true rest l e = refl
-either-zero false rest l e = e
+  pub laid-on : least ≤ w → 0 < w → isFact product w ≡ true → laidOut product least (w ∷ l) ≡ laidOut product (suc w) l
+  laid-on h p e = laid-some p ∙ (ap (λ b. b && (isFact product w && laidOut product (suc w) l)) (le-leb least w h) ∙ ap (λ b. b && laidOut product (suc w) l) e)
 
-laid-low : (least w : ℕ) (l : List ℕ) → w < least → laidOut product least (w ∷ l) ≡ zeros (w ∷ l)
-laid-low least w l h = either-zero (eqb w 0) _ l (ap (λ b. b && (isFact product w && laidOut product (suc w) l)) (lt-leb least w h))
+  either-zero : (b rest : Bool) → rest ≡ false → cond b (zeros l) rest ≡ (b && zeros l)
+  either-zero true rest e = refl
+  either-zero false rest e = e
 
-laid-no-fact : (least w : ℕ) (l : List ℕ) → isFact product w ≡ false → laidOut product least (w ∷ l) ≡ zeros (w ∷ l)
-laid-no-fact least w l e = either-zero (eqb w 0) _ l (and-false (leb least w) _ (ap (λ b. b && laidOut product (suc w) l) e))
-  where
-    and-false : (a b : Bool) → b ≡ false → (a && b) ≡ false
-    and-false true b e = e
-    and-false false b e = refl
+  pub laid-low : w < least → laidOut product least (w ∷ l) ≡ zeros (w ∷ l)
+  laid-low h = either-zero (eqb w 0) _ (ap (λ b. b && (isFact product w && laidOut product (suc w) l)) (lt-leb least w h))
+
+  pub laid-no-fact : isFact product w ≡ false → laidOut product least (w ∷ l) ≡ zeros (w ∷ l)
+  laid-no-fact e = either-zero (eqb w 0) _ (and-false (leb least w) _ (ap (λ b. b && laidOut product (suc w) l) e))
+    where
+      and-false : (a b : Bool) → b ≡ false → (a && b) ≡ false
+      and-false true b e = e
+      and-false false b e = refl
+
+  pub zeros-not : 0 < w → zeros (w ∷ l) ≡ false
+  zeros-not p = ap (λ b. b && zeros l) (ne-eqb w 0 (omega arith))
 
 module _ {t : List ℕ} {i last : ℕ} (k : Walk t i last) where
   pub walk-more : i < length t → last < getD t i 0 → isFact product (getD t i 0) ≡ true → Walk t (i + 1) (getD t i 0)

@@ -1,39 +1,20 @@
--- From a table that the check passes, and from an inner step's answer, to what the calls promise. Assumes nothing.
+-- From an inner step's answer to what the calls promise. Assumes nothing.
 use Prim.Native.Nat.{ℕ}
 use mathlib.Core.Path.{_≡_, refl, sym, ap, subst, _∙_}
-use mathlib.Core.Bool.{not}
-use mathlib.Core.Logic.{inl, inr, ⊎-elim}
+use mathlib.Core.Logic.{⊎-elim}
 use mathlib.Core.List.{List}
-use native.Mathlib.Omega.{arith}
-use lib.Dec.{ltb, leb, not-T, nltb→le, nleb→lt, eqb→eq}
+use lib.Dec.{eqb→eq}
 use lib.ListN.{length}
 use Rattle.rdfs.specs.Numbers.{product}
-use Rattle.rdfs.specs.Words.{laidOut, filled, facts}
-use Rattle.rdfs.specs.Clashes.{consistent?}
-use Rattle.rdfs.specs.Register.{Answer, badSize, badLayout, inconsistent, tableRefusal, step, Table}
-use Rattle.rdfs.proofs.Tests.{either-or}
-use Rattle.rdfs.proofs.TicketTests.{stands, known-operation}
-use Rattle.rdfs.proofs.Decision.{check-sound}
-use Rattle.rdfs.proofs.Refusals.{passed-link}
+use Rattle.rdfs.specs.Words.{filled}
+use Rattle.rdfs.specs.Register.{Answer, Table}
+use Rattle.rdfs.proofs.TicketTests.{known-operation}
 use Rattle.ticket.specs.Form.{sense, bytesOf, recordOf, ticketOf, formRefusal, Ready}
 use Rattle.ticket.specs.Answered.{Answered, Valued, Stepped, refusedWith}
 use Rattle.ticket.specs.declared.Applied.{Applied}
 use Rattle.ticket.specs.declared.form.Ticket.{Ticket}
 use Rattle.ticket.specs.declared.step.Step.{Step}
 use Rattle.ticket.proofs.Formed.{form-passes}
-
--- Words past refusals 1, 2 and 3 are a consistent table.
-pub checked-table : (w : List ℕ) → tableRefusal product w 0 ≡ 0 → Table product w
-checked-table w e =
-    let p1 = passed-link (badSize product w) 1 _ 0 (omega arith) e in
-    let p2 = passed-link (badLayout product w) 2 _ 0 (omega arith) (p1 .1) in
-    let p3 = passed-link (inconsistent product w) 3 _ 0 (omega arith) (p2 .1) in
-    record {
-      some = nleb→lt (length w) 0 (not-T (leb (length w) 0) (λ h. p1 .0 (either-or (leb (length w) 0) (ltb (product .most) (length w)) (inl h))));
-      fits = nltb→le (product .most) (length w) (not-T (ltb (product .most) (length w)) (λ h. p1 .0 (either-or (leb (length w) 0) (ltb (product .most) (length w)) (inr h))));
-      laid = stands (laidOut product 1 w) (p2 .0);
-      consistent = check-sound (facts product w) (stands (consistent? (facts product w)) (p3 .0));
-    }
 
 -- A ticket by its fields, each made wide.
 module _ {o k a b c : ℕ} (t : Ticket) (eo : t .operation ≡ o) (ek : k ≡ t .kind) (ea : a ≡ t .a) (eb : b ≡ t .b) (ec : c ≡ t .c) where

@@ -1,19 +1,19 @@
 -- The ways through the host's call: refused by reading, by the ticket, by writing, and done. Assumes nothing.
 use Prim.Native.Nat.{ℕ}
-use mathlib.Core.Path.{_≡_, refl, sym, ap, subst, _∙_}
-use mathlib.Core.Bool.{Bool, true, false, cond}
+use mathlib.Core.Path.{_≡_, sym, ap, subst, _∙_}
+use mathlib.Core.Bool.{cond}
 use mathlib.Core.List.{List}
 use lib.Dec.{eqb}
 use borrow.Author.Tests.{eq-eqb, ne-eqb}
 use Rattle.rdfs.specs.Numbers.{product}
 use Rattle.rdfs.specs.Register.{Answer, step, Table}
+use Rattle.rdfs.proofs.Steps.{checked-table}
 use Rattle.rdfs.proofs.AfterEach.{after}
 use Rattle.rdfs.proofs.Theorems.{product-sound}
 use Rattle.image.specs.Calls.{readAnswer, readWords, writeAnswer, writeLength, writeBytes}
 use Rattle.image.proofs.Theorems.{read-writes}
 use Rattle.ticket.specs.Answered.{Answered}
 use Rattle.ticket.specs.declared.Applied.{Applied}
-use Rattle.ticket.proofs.Answers.{checked-table}
 use Rattle.vimelosa.specs.Host.{packed, refusedElse, room, applied, hostAnswer, hostOutput}
 
 -- A refusal is the answer, and for 0 what comes after; the bytes likewise.
@@ -35,7 +35,7 @@ Hosted image ticket output r v = (r ≡ hostAnswer image ticket output) × (v �
 
 -- Words that were read are a consistent table.
 pub read-table : (image : List ℕ) (n : ℕ) {w : List ℕ} → n ≡ readAnswer room image → n ≡ 0 → w ≡ readWords room image → Table product w
-read-table image n e z h = subst (Table product) (sym h) (checked-table (readWords room image) (sym (read-writes room image (sym z ∙ e) .1)))
+read-table image n e z h = subst (Table product) (sym h) (checked-table product (readWords room image) (sym (read-writes room image (sym z ∙ e) .1)))
 
 -- So are those that a ticket leaves.
 pub left-table : {w v : List ℕ} (ticket : List ℕ) → Table product w → (a : Applied) → Answered a v (step product w ticket) → Table product v

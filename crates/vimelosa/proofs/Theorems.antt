@@ -1,13 +1,12 @@
 -- Which refusals the steps of the host's call can give. Assumes nothing.
 use Prim.Native.Nat.{ℕ}
-use mathlib.Core.Path.{_≡_, refl, sym, subst, _∙_}
+use mathlib.Core.Path.{_≡_, refl, sym}
 use mathlib.Core.List.{List}
 use lib.Dec.{ltb}
 use lib.ListN.{length}
 use Rattle.rdfs.specs.Numbers.{product}
-use Rattle.rdfs.specs.Register.{orElse, badSize, badLayout, inconsistent, Table}
-use Rattle.rdfs.proofs.Refusals.{pass-link}
-use Rattle.rdfs.proofs.Steps.{table-sane}
+use Rattle.rdfs.specs.Register.{orElse, inconsistent, Table}
+use Rattle.rdfs.proofs.Steps.{table-passes}
 use Rattle.rdfs.proofs.AfterEach.{after}
 use Rattle.rdfs.proofs.Theorems.{product-sound}
 use Rattle.image.specs.Form.{form}
@@ -30,5 +29,4 @@ pub write-refusals : (image ticket output : List ℕ) → readAnswer room image 
     → let left : List ℕ = applied image ticket .table in writeAnswer left output ≡ orElse (ltb (length output) (length (tableImage left))) 13 0
 write-refusals image ticket output e =
     let left : List ℕ = applied image ticket .table in
-    let s = table-sane product left (applied-table image ticket e) in
-    pass-link (badSize product left) 1 _ (s .size) ∙ (pass-link (badLayout product left) 2 _ (s .layout) ∙ pass-link (inconsistent product left) 3 _ (s .rules))
+    table-passes product left (applied-table image ticket e) (orElse (ltb (length output) (length (tableImage left))) 13 0)

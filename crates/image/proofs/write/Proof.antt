@@ -1,6 +1,8 @@
 -- `write`: a table that the check refuses is refused so; any other is consistent. Assumes nothing.
 use mathlib.Core.Path.{sym, _∙_}
-use Rattle.image.proofs.WriteCall.{write-refused, accepted-table}
+use Rattle.rdfs.specs.Numbers.{product}
+use Rattle.rdfs.proofs.Steps.{checked-table}
+use Rattle.image.proofs.WriteCall.{write-refused}
 use borrow.Author.Needs.{needs}
 use Rattle.image.proofs.write.Statement.{statement}
 use Rattle.image.proofs.write.Tie as tie
@@ -16,7 +18,7 @@ returns c =
 write-checked-requires : tie.Need-write-checked-requires
 write-checked-requires c κs =
     let at-check = c .before .before in
-    accepted-table (at-check .before .before .before .args .t .now) (sym (c .before .if1 .left) ∙ at-check .check .ensures)
+    checked-table product (at-check .before .before .before .args .t .now) (sym (at-check .check .ensures) ∙ c .before .if1 .left)
 
 same-length : tie.Need-same-length
 same-length c = search needs

@@ -5,7 +5,7 @@ use mathlib.Core.List.{List, _++_}
 use Prim.Native.Nat.{ℕ, _≤_, _<_}
 use lib.ListN.{length}
 use Rattle.image.specs.Calls.{tableImage}
-use Rattle.image.proofs.WriteCall.{table-accepted, table-counted, write-short, write-done, stored-first, stored-after}
+use Rattle.image.proofs.WriteCall.{table-counted, write-short, write-done, stored-first, stored-after}
 use borrow.Author.Needs.{needs}
 use Rattle.image.proofs.write_checked.Statement.{statement}
 use Rattle.image.proofs.write_checked.Tie as tie
@@ -19,7 +19,7 @@ image-length-requires c κs = search needs
 returns : tie.Need-returns
 returns c =
     let s = c .before .before .before .before .before in
-    write-short (s .args .t .now) (s .args .output .now) (table-accepted (s .args .t .now) (s .pre)) (subst (λ m. length (s .args .output .now) < m) (c .before .image-length .ensures .0) (c .if1 .taken))
+    write-short (s .args .t .now) (s .args .output .now) (s .pre) (subst (λ m. length (s .args .output .now) < m) (c .before .image-length .ensures .0) (c .if1 .taken))
 
 put-contents-requires : tie.Need-put-contents-requires
 put-contents-requires c κs = search needs
@@ -52,7 +52,7 @@ returns-2 c =
     let out : List ℕ = s .args .output .now in
     let counted = table-counted (s .pre) (at-count .count-facts .result) (at-count .count-facts .ensures) in
     let fits = subst (λ m. m ≤ length out) (at-length .image-length .ensures .0) (at-contents .before .before .if1 .left) in
-    write-done t out (table-accepted t (s .pre)) fits (at-length .image-length .result) (at-length .image-length .ensures .0) _
+    write-done t out (s .pre) fits (at-length .image-length .result) (at-length .image-length .ensures .0) _
     (at-bodies .put-bodies .ensures ∙ ap (λ m. tableImage t ++ m) (stored-after t (at-count .count-facts .result) counted out _ (at-contents .put-contents .ensures)))
 
 pub write-checked-spec : {M : Type 1} → statement M

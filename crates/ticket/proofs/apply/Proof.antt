@@ -1,8 +1,10 @@
 -- `apply`: the check of the table, then the ticket. Assumes nothing.
 use mathlib.Core.Path.{sym, _∙_}
 use denote.Ref.{now}
+use Rattle.rdfs.specs.Numbers.{product}
+use Rattle.rdfs.proofs.Steps.{checked-table}
 use Rattle.ticket.proofs.RefusedSteps.{table-refused}
-use Rattle.ticket.proofs.Answers.{checked-table, answered-refused}
+use Rattle.ticket.proofs.Answers.{answered-refused}
 use borrow.Author.Needs.{needs}
 use Rattle.ticket.proofs.apply.Statement.{statement}
 use Rattle.ticket.proofs.apply.Tie as tie
@@ -26,7 +28,7 @@ apply-checked-requires : tie.Need-apply-checked-requires
 apply-checked-requires c κs =
     let d = c .before in
     let s = d .before .before .before .before .before in
-    checked-table (now (s .args .table)) (sym (d .before .check .ensures) ∙ d .if1 .left)
+    checked-table product (now (s .args .table)) (sym (d .before .check .ensures) ∙ d .if1 .left)
 
 same-length-2 : tie.Need-same-length-2
 same-length-2 c = search needs
