@@ -21,7 +21,7 @@ use Rattle.image.proofs.Linking.{kinds-more, kinds-done}
 
 module _ (bytes : List ℕ) (k : ℕ) where
   word-at-some : (p : ℕ) → 0 < wordAt product form bytes k p
-  word-at-some p = word-some 256 (made k (idAt form bytes p 0) (idAt form bytes p 1) (idAt form bytes p 2)) (lit< tt)
+  word-at-some p = word-some (product .base) (made k (idAt form bytes p 0) (idAt form bytes p 1) (idAt form bytes p 2)) (lit< tt)
 
   -- The first i of the facts from `from` on are facts, ascending up to `top`; the next stands at p.
   pub record Climb (from count last i p top : ℕ) : Type 0 where
@@ -71,24 +71,24 @@ module _ (bytes : List ℕ) (k : ℕ) where
 
 -- The words of the first `done` kinds are facts, ascending up to `last`.
 pub record Climbed (bytes : List ℕ) (done last : ℕ) : Type 0 where
-  pub within : done ≤ 10
-  pub rest : laidOut product 1 (wordsOf product form bytes) ≡ laidOut product (suc last) (concatMap (wordsIn product form bytes) (kindsAfter done (10 - done)))
+  pub within : done ≤ form .entries
+  pub rest : laidOut product 1 (wordsOf product form bytes) ≡ laidOut product (suc last) (concatMap (wordsIn product form bytes) (kindsAfter done (form .entries - done)))
 
 pub climbed-start : (bytes : List ℕ) → Climbed bytes 0 0
 unfolding wordsOf
 climbed-start bytes = record { within = omega arith; rest = refl }
 
 -- The body of the next kind, at the place and with the count that its entry gives.
-module _ {bytes : List ℕ} {done last : ℕ} (c : Climbed bytes done last) (h : done < 10) (r : Rise)
+module _ {bytes : List ℕ} {done last : ℕ} (c : Climbed bytes done last) (h : done < form .entries) (r : Rise)
     (from count : ℕ) (e : from ≡ startAt form bytes (done + 1)) (d : count ≡ countAt form bytes (done + 1)) (f : (rest : List ℕ) → RisesTo last (wordsFrom product form bytes (done + 1) count from) rest r) where
   abbrev others : List ℕ
-  others = concatMap (wordsIn product form bytes) (kindsAfter (done + 1) (10 - (done + 1)))
+  others = concatMap (wordsIn product form bytes) (kindsAfter (done + 1) (form .entries - (done + 1)))
 
   next : laidOut product 1 (wordsOf product form bytes) ≡ laidAfter r others
   next =
       let same : wordsIn product form bytes (done + 1) ≡ wordsFrom product form bytes (done + 1) count from =
       ap (λ n. wordsFrom product form bytes (done + 1) n (startAt form bytes (done + 1))) (sym d) ∙ ap (wordsFrom product form bytes (done + 1) count) (sym e) in
-      c .rest ∙ (ap (λ ks. laidOut product (suc last) (concatMap (wordsIn product form bytes) ks)) (kinds-more 10 done h) ∙ (ap (λ l. laidOut product (suc last) (l ++ others)) same ∙ f others))
+      c .rest ∙ (ap (λ ks. laidOut product (suc last) (concatMap (wordsIn product form bytes) ks)) (kinds-more (form .entries) done h) ∙ (ap (λ l. laidOut product (suc last) (l ++ others)) same ∙ f others))
 
   pub climbed-more : (w : ℕ) → r ≡ To w → Climbed bytes (done + 1) w
   climbed-more w q = record { within = omega arith; rest = next ∙ ap (λ x. laidAfter x others) q }
@@ -96,5 +96,5 @@ module _ {bytes : List ℕ} {done last : ℕ} (c : Climbed bytes done last) (h :
   pub climbed-broken : r ≡ Broken → laidOut product 1 (wordsOf product form bytes) ≡ false
   climbed-broken q = next ∙ ap (λ x. laidAfter x others) q
 
-pub climbed-end : {bytes : List ℕ} {done last : ℕ} → Climbed bytes done last → 10 ≤ done → laidOut product 1 (wordsOf product form bytes) ≡ true
-climbed-end {bytes} {done} {last} c h = c .rest ∙ ap (λ ks. laidOut product (suc last) (concatMap (wordsIn product form bytes) ks)) (kinds-done 10 done h)
+pub climbed-end : {bytes : List ℕ} {done last : ℕ} → Climbed bytes done last → form .entries ≤ done → laidOut product 1 (wordsOf product form bytes) ≡ true
+climbed-end {bytes} {done} {last} c h = c .rest ∙ ap (λ ks. laidOut product (suc last) (concatMap (wordsIn product form bytes) ks)) (kinds-done (form .entries) done h)

@@ -5,13 +5,13 @@ use mathlib.Core.List.{List, [], _∷_, _++_}
 use native.Mathlib.Omega.{arith}
 use lib.Dec.{lit≤}
 use lib.ListN.{length, getD, take, drop}
-use lib.Seq.{length-take-le}
 use Rattle.rdfs.specs.Numbers.{arity}
 use Rattle.rdfs.specs.Lists.{concatMap}
 use Rattle.rdfs.specs.Facts.{Fact, cl, pr, ind, lit, csub, psub, dom, rng, ci, pi, kind, ids, first, second, third, made}
 use Rattle.rdfs.specs.Words.{word}
 use Rattle.rdfs.proofs.Facts.{made-of}
 use Rattle.rdfs.proofs.Digits.{kind-below, Below}
+use Rattle.rdfs.proofs.Theorems.{arity-is}
 use Rattle.image.specs.Form.{Form, Proper, factSize, inBytes}
 use Rattle.image.specs.Reading.{idAt}
 use Rattle.image.proofs.InBytes.{AllBytes, Under, under-take, numbersFrom, numbers-read, numbers-written, number-bound}
@@ -69,9 +69,7 @@ pub own-ids : (f : Fact) → ids f ≡ take (arity (kind f)) (first f ∷ second
 own-ids f = let k = fact-kind f in ap ids (sym (made-of f)) ∙ is-kind (kind f) (k .0) (k .1) .has-ids (first f) (second f) (third f)
 
 pub ids-count : (f : Fact) → length (ids f) ≡ arity (kind f)
-ids-count f =
-    let k = fact-kind f in
-    ap length (own-ids f) ∙ length-take-le (arity (kind f)) (first f ∷ second f ∷ third f ∷ []) (is-kind (kind f) (k .0) (k .1) .few)
+ids-count f = sym (arity-is f)
 
 module _ (F : Form) (proper : Proper F) (bytes : List ℕ) where
   -- The ids at a place, as many as are wanted.

@@ -6,7 +6,7 @@ use native.Mathlib.Omega.{arith}
 use lib.ListN.{length, take, drop, length-append, length-drop}
 use lib.Seq.{take-at, drop-drop, drop-append-add, take-add, take-all, take-length, length-take-le, paste}
 use Rattle.rdfs.specs.Numbers.{product}
-use Rattle.image.specs.Form.{form}
+use Rattle.image.specs.Form.{form, fieldValues}
 use Rattle.image.specs.Reading.{startAt, countAt, wordsFrom, wordsIn, wordsOf}
 use Rattle.image.proofs.WordsRead.{wordsFrom-length}
 use Rattle.image.proofs.Filling.{later, Passed, passed-start, passed-next, passed-more, passed-all}
@@ -29,7 +29,7 @@ module _ {bytes t₀ t : List ℕ} {done place : ℕ} (f : Filled bytes t₀ t d
   pub filled-length : length t ≡ length t₀
   filled-length = ap length (f .so-far) ∙ (length-append (take place words) (drop place t₀) ∙ omega (arith, firsts, length-drop place t₀, f .passed .fits, room))
 
-  module _ (h : done < 10) (from count : ℕ) (e : from ≡ startAt form bytes (done + 1)) (d : count ≡ countAt form bytes (done + 1)) where
+  module _ (h : done < form .entries) (from count : ℕ) (e : from ≡ startAt form bytes (done + 1)) (d : count ≡ countAt form bytes (done + 1)) where
     pub filled-room : place + count ≤ length t
     filled-room = omega (arith, passed-next (f .passed) h count d .1, room, filled-length)
 
@@ -39,7 +39,7 @@ module _ {bytes t₀ t : List ℕ} {done place : ℕ} (f : Filled bytes t₀ t d
     body-long : length body ≡ count
     body-long = wordsFrom-length product form bytes (done + 1) count from
 
-    pub filled-more : count < 65536 → (t′ : List ℕ) → t′ ≡ paste t place body count → Filled bytes t₀ t′ (done + 1) (place + count)
+    pub filled-more : count < fieldValues form → (t′ : List ℕ) → t′ ≡ paste t place body count → Filled bytes t₀ t′ (done + 1) (place + count)
     filled-more small t′ q =
         let low : take place t ≡ take place words = ap (take place) (f .so-far) ∙ take-at (take place words) (drop place t₀) place firsts in
         let all : take count body ≡ body = take-all count body (omega (arith, body-long)) in
@@ -58,7 +58,7 @@ module _ {bytes t₀ t : List ℕ} {done place : ℕ} (f : Filled bytes t₀ t d
               ∙ (ap (λ l. (take place words ++ body) ++ l) high ∙ ap (λ l. l ++ drop (place + count) t₀) (sym more))));
         }
 
-  pub filled-all : 10 ≤ done → t ≡ words ++ drop (length words) t₀
+  pub filled-all : form .entries ≤ done → t ≡ words ++ drop (length words) t₀
   filled-all h =
       let all : place ≡ length words = passed-all (f .passed) h in
       f .so-far ∙ (ap (λ n. take n words ++ drop n t₀) all ∙ ap (λ l. l ++ drop (length words) t₀) (take-length words))

@@ -9,14 +9,14 @@ use lib.ListN.{length, getD, set, drop, length-append, length-drop}
 use lib.Seq.{drop-at, drop-drop, paste, paste-zero, paste-suc, length-paste}
 use Rattle.rdfs.specs.Numbers.{product}
 use Rattle.rdfs.specs.Lists.{concatMap}
-use Rattle.image.specs.Form.{form, factSize, kindsAfter}
+use Rattle.image.specs.Form.{form, fieldValues, factSize, kindsAfter}
 use Rattle.image.specs.Reading.{startAt, countAt, wordAt, wordsFrom, wordsIn, wordsOf}
 use Rattle.image.proofs.WordsRead.{wordsFrom-length}
 use Rattle.image.proofs.Linking.{kinds-more, kinds-done}
 
 -- The words of the kinds after the first `done`.
 abbrev pub later : List ℕ → ℕ → List ℕ
-later bytes done = concatMap (wordsIn product form bytes) (kindsAfter done (10 - done))
+later bytes done = concatMap (wordsIn product form bytes) (kindsAfter done (form .entries - done))
 
 abbrev words : List ℕ → List ℕ
 words bytes = wordsOf product form bytes
@@ -25,19 +25,19 @@ later-all : (bytes : List ℕ) → words bytes ≡ later bytes 0
 unfolding wordsOf
 later-all bytes = refl
 
-later-more : (bytes : List ℕ) (done : ℕ) → done < 10 → later bytes done ≡ wordsIn product form bytes (done + 1) ++ later bytes (done + 1)
-later-more bytes done h = ap (concatMap (wordsIn product form bytes)) (kinds-more 10 done h)
+later-more : (bytes : List ℕ) (done : ℕ) → done < form .entries → later bytes done ≡ wordsIn product form bytes (done + 1) ++ later bytes (done + 1)
+later-more bytes done h = ap (concatMap (wordsIn product form bytes)) (kinds-more (form .entries) done h)
 
-later-none : (bytes : List ℕ) (done : ℕ) → 10 ≤ done → later bytes done ≡ []
-later-none bytes done h = ap (concatMap (wordsIn product form bytes)) (kinds-done 10 done h)
+later-none : (bytes : List ℕ) (done : ℕ) → form .entries ≤ done → later bytes done ≡ []
+later-none bytes done h = ap (concatMap (wordsIn product form bytes)) (kinds-done (form .entries) done h)
 
 kind-length : (bytes : List ℕ) (k : ℕ) → length (wordsIn product form bytes k) ≡ countAt form bytes k
 kind-length bytes k = wordsFrom-length product form bytes k (countAt form bytes k) (startAt form bytes k)
 
 -- The first `place` words are those of the first `done` kinds.
 pub record Passed (bytes : List ℕ) (done place : ℕ) : Type 0 where
-  pub within : done ≤ 10
-  pub small : place ≤ done * 65535
+  pub within : done ≤ form .entries
+  pub small : place ≤ done * fieldValues form
   pub fits : place ≤ length (words bytes)
   pub rest : drop place (words bytes) ≡ later bytes done
 
@@ -45,12 +45,12 @@ pub passed-start : (bytes : List ℕ) → Passed bytes 0 0
 passed-start bytes = record { within = omega arith; small = omega arith; fits = omega arith; rest = later-all bytes }
 
 module _ {bytes : List ℕ} {done place : ℕ} (p : Passed bytes done place) where
-  pub passed-next : done < 10 → (count : ℕ) → count ≡ countAt form bytes (done + 1) → (drop place (words bytes) ≡ wordsIn product form bytes (done + 1) ++ later bytes (done + 1)) × (place + count ≤ length (words bytes))
+  pub passed-next : done < form .entries → (count : ℕ) → count ≡ countAt form bytes (done + 1) → (drop place (words bytes) ≡ wordsIn product form bytes (done + 1) ++ later bytes (done + 1)) × (place + count ≤ length (words bytes))
   passed-next h count e =
       let split = p .rest ∙ later-more bytes done h in
       (split, omega (arith, p .fits, e, length-drop place (words bytes), ap length split, length-append (wordsIn product form bytes (done + 1)) (later bytes (done + 1)), kind-length bytes (done + 1)))
 
-  pub passed-more : done < 10 → (count : ℕ) → count ≡ countAt form bytes (done + 1) → count < 65536 → Passed bytes (done + 1) (place + count)
+  pub passed-more : done < form .entries → (count : ℕ) → count ≡ countAt form bytes (done + 1) → count < fieldValues form → Passed bytes (done + 1) (place + count)
   passed-more h count e l =
       let n = passed-next h count e in
       record {
@@ -60,7 +60,7 @@ module _ {bytes : List ℕ} {done place : ℕ} (p : Passed bytes done place) whe
         rest = sym (drop-drop count place (words bytes)) ∙ (ap (drop count) (n .0) ∙ drop-at (wordsIn product form bytes (done + 1)) (later bytes (done + 1)) count (kind-length bytes (done + 1) ∙ sym e));
       }
 
-  pub passed-all : 10 ≤ done → place ≡ length (words bytes)
+  pub passed-all : form .entries ≤ done → place ≡ length (words bytes)
   passed-all h = omega (arith, p .fits, length-drop place (words bytes), ap length (p .rest ∙ later-none bytes done h))
 
 -- The first i facts of a body are stored; the next stands at p.

@@ -47,7 +47,7 @@ module _ (bytes : List ℕ) (k : ℕ) where
   pub record There : Type 0 where
     pub here : bodiless product form bytes k ≡ false
     pub some : 1 ≤ k
-    pub most : k ≤ 10
+    pub most : k ≤ form .entries
     pub right : Contents form bytes
 
   pub there : (r : Bool) → r ≡ not (bodiless product form bytes k) → not r ≡ false → There
@@ -55,7 +55,7 @@ module _ (bytes : List ℕ) (k : ℕ) where
       let here : bodiless product form bytes k ≡ false = not-true (bodiless product form bytes k) (sym e ∙ not-false r f) in
       let both = or-none (malformed product form bytes) (not (member (kinds form) k)) here in
       let i : k ∈ kinds form = member-in (kinds form) k (subst T (sym (not-false (member (kinds form) k) (both .1))) tt) in
-      let b = kinds-from 0 10 k i in
+      let b = kinds-from 0 (form .entries) k i in
       record { here = here; some = b .0; most = b .1; right = well-contents bytes (both .0) }
 
   -- Its size by its parts, and its end within the bytes.

@@ -1,15 +1,15 @@
 -- How many words of a kind a table has, by the words below its first and below the next kind's. Assumes nothing.
-use Prim.Native.Nat.{ℕ, suc, _+_, _-_, _≤_}
+use Prim.Native.Nat.{ℕ, _+_, _-_, _≤_}
 use mathlib.Core.Path.{_≡_, refl, sym, ap, _∙_}
-use mathlib.Core.Bool.{Bool, true, false, cond}
 use mathlib.Core.List.{List, [], _∷_}
 use native.Mathlib.Omega.{arith}
 use native.Mathlib.Decide.{decLt}
 use lib.Dec.{T, eqb}
 use lib.ListN.{length, take}
 use Rattle.rdfs.specs.Numbers.{product}
-use Rattle.rdfs.specs.Lists.{_∈_, here, there, Ascending, filter}
+use Rattle.rdfs.specs.Lists.{_∈_, here, there, Ascending}
 use Rattle.rdfs.specs.Words.{isFact, filled}
+use Rattle.rdfs.proofs.Filters.{filter-split}
 use Rattle.rdfs.proofs.LaidOut.{laid-is-fact}
 use Rattle.rdfs.proofs.Theorems.{product-sound}
 use Rattle.table.specs.Found.{below}
@@ -43,14 +43,6 @@ kind-between k (w ∷ l) h =
       ]
     ]
 
-filter-short : (p : ℕ → Bool) (l : List ℕ) → length (filter p l) ≤ length l
-filter-short p [] = omega arith
-filter-short p (x ∷ l) = step (p x) (filter-short p l)
-  where
-    step : (b : Bool) → length (filter p l) ≤ length l → length (cond b (x ∷ filter p l) (filter p l)) ≤ suc (length l)
-    step true h = omega arith
-    step false h = omega arith
-
 module _ (t : List ℕ) (n : ℕ) (c : Counted t n) where
   pub counted-ready : (n ≤ length t) × Ascending (take n t)
   counted-ready = counted-ascending product t (c .laid) n (c .count)
@@ -68,7 +60,7 @@ module _ (t : List ℕ) (n : ℕ) (c : Counted t n) where
     pub kind-order : from ≤ to
     kind-order = omega (arith, found)
 
-    pub kind-found : (to - from ≡ length (ofKind product k (filled t))) × (to - from ≤ 2048)
+    pub kind-found : (to - from ≡ length (ofKind product k (filled t))) × (to - from ≤ product .most)
     kind-found =
         let exact : to - from ≡ length (ofKind product k (filled t)) = omega (arith, found) in
-        (exact, omega (arith, exact, filter-short (λ w. eqb (factKind product w) k) (filled t), filled-within product t (c .laid), c .few))
+        (exact, omega (arith, exact, filter-split (λ w. eqb (factKind product w) k) (filled t), filled-within product t (c .laid), c .few))

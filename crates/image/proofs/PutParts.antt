@@ -12,7 +12,7 @@ use Rattle.rdfs.specs.Lists.{concatMap}
 use Rattle.rdfs.specs.Words.{isFact, filled}
 use Rattle.rdfs.proofs.LaidOut.{laid-is-fact}
 use Rattle.table.proofs.Filled.{at-in, counted-filled}
-use Rattle.image.specs.Form.{form, factSize, entryAt, kindsAfter, kinds}
+use Rattle.image.specs.Form.{form, factSize, entrySize, entryAt, firstBody, kindsAfter, kinds}
 use Rattle.image.specs.Image.{ofKind, idBytes, bodies, entry, contents, imageOf}
 use Rattle.image.specs.Calls.{tableImage}
 use Rattle.image.specs.Writing.{Counted, over}
@@ -22,7 +22,7 @@ use Rattle.image.proofs.Measuring.{counted-facts, bodies-all, image-who
 use Rattle.image.proofs.Overlaid.{Overlaid, overlaid-length, overlaid-self, overlaid-more, overlaid-all, two-stores}
 use Rattle.image.proofs.Product.{proper}
 
-image-head : (l : List ℕ) → drop 0 (imageOf product form l) ≡ (1 ∷ 10 ∷ []) ++ (contents product form l 62 (kinds form) ++ bodies product form l (kinds form))
+image-head : (l : List ℕ) → drop 0 (imageOf product form l) ≡ (form .edition ∷ form .entries ∷ []) ++ (contents product form l (firstBody form) (kinds form) ++ bodies product form l (kinds form))
 unfolding imageOf
 image-head l = refl
 
@@ -30,19 +30,19 @@ image-head l = refl
 pub record Entered (l out₀ out : List ℕ) (done start : ℕ) : Type 0 where
   pub measured : Measured l done start
   pub laid : Overlaid (imageOf product form l) out₀ out (entryAt form (done + 1))
-  pub rest : drop (entryAt form (done + 1)) (imageOf product form l) ≡ contents product form l start (kindsAfter done (10 - done)) ++ bodies product form l (kinds form)
+  pub rest : drop (entryAt form (done + 1)) (imageOf product form l) ≡ contents product form l start (kindsAfter done (form .entries - done)) ++ bodies product form l (kinds form)
 
 -- The edition and the number of entries are stored.
 abbrev headed : List ℕ → List ℕ
-headed out = set (set out 0 1) 1 10
+headed out = set (set out 0 (form .edition)) 1 (form .entries)
 
-pub entered-start : (l out : List ℕ) → length (imageOf product form l) ≤ length out → Entered l (headed out) (headed out) 0 62
+pub entered-start : (l out : List ℕ) → length (imageOf product form l) ≤ length out → Entered l (headed out) (headed out) 0 (firstBody form)
 entered-start l out room =
-    let parts : List ℕ = contents product form l 62 (kinds form) ++ bodies product form l (kinds form) in
+    let parts : List ℕ = contents product form l (firstBody form) (kinds form) ++ bodies product form l (kinds form) in
     let none : Overlaid (imageOf product form l) out out 0 = record { within = omega arith; so-far = refl } in
     record {
       measured = measured-start l;
-      laid = overlaid-self (overlaid-more none (1 ∷ 10 ∷ []) parts (image-head l) (headed out) (two-stores out 0 1 10 (omega (arith, room, image-length product form proper l))));
+      laid = overlaid-self (overlaid-more none (form .edition ∷ form .entries ∷ []) parts (image-head l) (headed out) (two-stores out 0 (form .edition) (form .entries) (omega (arith, room, image-length product form proper l))));
       rest = image-parts product form proper l;
     }
 
@@ -50,7 +50,7 @@ module _ {l out₀ out : List ℕ} {done start : ℕ} (e : Entered l out₀ out 
   pub entered-length : length (imageOf product form l) ≤ length out₀ → length out ≡ length out₀
   entered-length room = overlaid-length (e .laid) room
 
-  pub entered-more : done < 10 → (size count : ℕ) → size ≡ factSize form (done + 1) → count ≡ length (ofKind product (done + 1) l)
+  pub entered-more : done < form .entries → (size count : ℕ) → size ≡ factSize form (done + 1) → count ≡ length (ofKind product (done + 1) l)
       → (out′ : List ℕ) → out′ ≡ over out (entryAt form (done + 1)) (entry form (done + 1) start count) → Entered l out₀ out′ (done + 1) (start + size * count)
   entered-more h size count s d out′ q =
       let k : ℕ = done + 1 in
@@ -58,12 +58,12 @@ module _ {l out₀ out : List ℕ} {done start : ℕ} (e : Entered l out₀ out 
       let image : List ℕ = imageOf product form l in
       let new : List ℕ = entry form k start count in
       let all : List ℕ = bodies product form l (kinds form) in
-      let later : List ℕ = contents product form l (start + size * count) (kindsAfter k (10 - k)) in
-      let same : contents product form l start (kindsAfter done (10 - done)) ≡ new ++ later =
-      ap (contents product form l start) (kinds-more 10 done h) ∙ (ap (λ n. entry form k start n ++ contents product form l (start + factSize form k * n) (kindsAfter k (10 - k))) (sym d)
-      ∙ ap (λ n. new ++ contents product form l (start + n * count) (kindsAfter k (10 - k))) (sym s)) in
+      let later : List ℕ = contents product form l (start + size * count) (kindsAfter k (form .entries - k)) in
+      let same : contents product form l start (kindsAfter done (form .entries - done)) ≡ new ++ later =
+      ap (contents product form l start) (kinds-more (form .entries) done h) ∙ (ap (λ n. entry form k start n ++ contents product form l (start + factSize form k * n) (kindsAfter k (form .entries - k))) (sym d)
+      ∙ ap (λ n. new ++ contents product form l (start + n * count) (kindsAfter k (form .entries - k))) (sym s)) in
       let split : drop at image ≡ new ++ (later ++ all) = e .rest ∙ (ap (λ m. m ++ all) same ∙ append-assoc new later all) in
-      let long : length new ≡ 6 = entry-length product form k start count in
+      let long : length new ≡ entrySize form = entry-length product form k start count in
       let next : at + length new ≡ entryAt form (k + 1) = omega (arith, long) in
       record {
         measured = measured-more (e .measured) h size count s d;
@@ -71,13 +71,13 @@ module _ {l out₀ out : List ℕ} {done start : ℕ} (e : Entered l out₀ out 
         rest = ap (λ n. drop n image) (sym next) ∙ (sym (drop-drop (length new) at image) ∙ (ap (drop (length new)) split ∙ drop-at new (later ++ all) (length new) refl));
       }
 
-  entered-all : 10 ≤ done → out ≡ take 62 (imageOf product form l) ++ drop 62 out₀
+  entered-all : form .entries ≤ done → out ≡ take (firstBody form) (imageOf product form l) ++ drop (firstBody form) out₀
   entered-all h =
-      let end : entryAt form (done + 1) ≡ 62 = omega (arith, h, e .measured .within) in
+      let end : entryAt form (done + 1) ≡ firstBody form = omega (arith, h, e .measured .within) in
       e .laid .so-far ∙ ap (λ n. take n (imageOf product form l) ++ drop n out₀) end
 
-pub entered-done : (l out : List ℕ) {out′ : List ℕ} {done start : ℕ} → Entered l (headed out) out′ done start → 10 ≤ done → out′ ≡ take 62 (imageOf product form l) ++ drop 62 out
-entered-done l out e h = entered-all e h ∙ ap (λ m. take 62 (imageOf product form l) ++ m) (drop-set-lt 62 (set out 0 1) 1 10 (lit< tt) ∙ drop-set-lt 62 out 0 1 (lit< tt))
+pub entered-done : (l out : List ℕ) {out′ : List ℕ} {done start : ℕ} → Entered l (headed out) out′ done start → form .entries ≤ done → out′ ≡ take (firstBody form) (imageOf product form l) ++ drop (firstBody form) out
+entered-done l out e h = entered-all e h ∙ ap (λ m. take (firstBody form) (imageOf product form l) ++ m) (drop-set-lt (firstBody form) (set out 0 (form .edition)) 1 (form .entries) (lit< tt) ∙ drop-set-lt (firstBody form) out 0 (form .edition) (lit< tt))
 
 -- The ids of the first i facts are stored.
 pub record Embodied (l out₀ out : List ℕ) (i at : ℕ) : Type 0 where
@@ -86,10 +86,10 @@ pub record Embodied (l out₀ out : List ℕ) (i at : ℕ) : Type 0 where
   pub rest : drop at (imageOf product form l) ≡ concatMap (idBytes product form) (drop i l)
 
 module _ (t : List ℕ) (n : ℕ) (c : Counted t n) where
-  pub embodied-start : (out : List ℕ) → take 62 out ≡ take 62 (tableImage t) → Embodied (filled t) out out 0 62
+  pub embodied-start : (out : List ℕ) → take (firstBody form) out ≡ take (firstBody form) (tableImage t) → Embodied (filled t) out out 0 (firstBody form)
   embodied-start out e = record {
     within = omega arith;
-    laid = record { within = omega (arith, image-whole t n c); so-far = sym (take-append-drop 62 out) ∙ ap (λ m. m ++ drop 62 out) e };
+    laid = record { within = omega (arith, image-whole t n c); so-far = sym (take-append-drop (firstBody form) out) ∙ ap (λ m. m ++ drop (firstBody form) out) e };
     rest = bodies-at product form proper (filled t) ∙ bodies-all (filled t) (counted-facts t n c);
   }
 

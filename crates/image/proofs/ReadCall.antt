@@ -5,10 +5,10 @@ use mathlib.Core.Bool.{Bool, true, false, cond}
 use mathlib.Core.Logic.{inr}
 use mathlib.Core.List.{List, _++_}
 use native.Mathlib.Omega.{arith}
-use native.Mathlib.Decide.{decLt}
+use native.Mathlib.Decide.{decLt, ℕ-discrete}
 use lib.Dec.{T, ltb}
 use lib.ListN.{length, drop, replicate}
-use borrow.Author.Tests.{eq-eqb, ne-eqb, lt-ltb, le-ltb}
+use borrow.Author.Tests.{eq-eqb, ne-eqb, lt-ltb, le-ltb, ltb-false}
 use Rattle.rdfs.specs.Numbers.{product}
 use Rattle.rdfs.specs.Words.{padded}
 use Rattle.rdfs.specs.Register.{orElse, badSize, inconsistent, tableRefusal}
@@ -23,7 +23,7 @@ use Rattle.image.proofs.Product.{right-malformed}
 use Rattle.image.proofs.Held.{drop-zeros, held-checked}
 
 -- No refusal: each test fails, and what comes after is 0.
-pub else-none : (b : Bool) (n rest : ℕ) → (n ≡ 0 → ⊥) → orElse b n rest ≡ 0 → (b ≡ false) × (rest ≡ 0)
+else-none : (b : Bool) (n rest : ℕ) → (n ≡ 0 → ⊥) → orElse b n rest ≡ 0 → (b ≡ false) × (rest ≡ 0)
 else-none true n rest h e = absurd (h e)
 else-none false n rest h e = (refl, e)
 
@@ -76,6 +76,21 @@ module _ (t bytes : List ℕ) where
     -- No more: 12, 3 or 0.
     pub read-fitting : length words ≤ length t → readAnswer t bytes ≡ orElse (malformed product form bytes) 12 last
     read-fitting h = read-sized ∙ ap (λ b. orElse (malformed product form bytes) 12 (orElse b 11 last)) (le-ltb (length t) (length words) h)
+
+  -- Not refused.
+  pub read-parts : 0 ≡ readAnswer t bytes → (badSize product t ≡ false) × (malformed product form bytes ≡ false) × (length words ≤ length t) × (last ≡ 0)
+  read-parts e =
+      let more : Bool = ltb (length t) (length words) in
+      let a = else-none (badSize product t) 1 (imageRefusal bytes (length t) last) (omega arith) (sym e) in
+      let b = else-none (malformed product form bytes) 12 (orElse more 11 last) (omega arith) (a .1) in
+      let c = else-none more 11 last (omega arith) (b .1) in
+      (a .0, b .0, ltb-false (length t) (length words) (c .0), c .1)
+
+  pub read-length : length (readWords t bytes) ≡ length t
+  read-length = elim (ℕ-discrete (readAnswer t bytes) 0) [
+    | yes e ↦ ap length (sym (read-done (sym e) (padded (length t) words) refl .1)) ∙ padded-length (length t) words (read-parts (sym e) .2)
+    | no n ↦ ap length (sym (read-refused (readAnswer t bytes) refl n .1))
+  ]
 
 -- A work table of zeros into which the words of an image that fits were stored, and the answer r of its check.
 module _ (t bytes : List ℕ) (b : AllBytes bytes) (f : Fitting t bytes) (zeros : List ℕ) (z : zeros ≡ replicate (length t) 0) (work : List ℕ) (e : work ≡ words t bytes ++ drop (length (words t bytes)) zeros) where

@@ -1,12 +1,10 @@
 -- What is proved of images, in one place. Assumes nothing.
 use Prim.Native.Nat.{ℕ, _≤_}
 use mathlib.Core.Path.{_≡_, refl, sym, ap, subst, _∙_}
-use mathlib.Core.Bool.{Bool, false, not}
+use mathlib.Core.Bool.{false, not}
 use mathlib.Core.List.{List, map}
-use native.Mathlib.Omega.{arith}
-use lib.Dec.{ltb, lit≤}
+use lib.Dec.{lit≤}
 use lib.ListN.{length, take, drop}
-use borrow.Author.Tests.{ltb-false}
 use Rattle.rdfs.specs.Numbers.{Numbers, Sound, product}
 use Rattle.rdfs.specs.Lists.{_∈_}
 use Rattle.rdfs.specs.Clashes.{consistent?}
@@ -20,11 +18,11 @@ use Rattle.table.proofs.Filled.{filled-within}
 use Rattle.image.specs.Form.{Form, Proper, form, kinds}
 use Rattle.image.specs.Image.{bodyOf, imageOf}
 use Rattle.image.specs.Reading.{Facts, wordsOf, malformed, bodyStart, bodySize}
-use Rattle.image.specs.Calls.{tableImage, imageRefusal, readAnswer, readWords}
+use Rattle.image.specs.Calls.{tableImage, readAnswer, readWords}
 use Rattle.image.proofs.RoundTrip.{words-again, written-well, read-well, words-full, body-ids, filled-facts}
 use Rattle.image.proofs.Product.{proper}
 use Rattle.image.proofs.Held.{held-filled, held-checked}
-use Rattle.image.proofs.ReadCall.{else-none, read-done, read-fitting}
+use Rattle.image.proofs.ReadCall.{read-done, read-fitting, read-parts}
 
 -- For any numbers and any form with an entry for each kind: an image that was written is well formed and gives its words.
 pub written-reads : (N : Numbers) (F : Form) → Sound N → Proper F → 10 ≤ F .entries → (l : List ℕ) → Facts N l
@@ -63,15 +61,11 @@ table-reads-back t u e size h =
 -- Bytes that are read are exactly the image that writing gives for the table read, which writing does not refuse.
 pub read-writes : (t bytes : List ℕ) → 0 ≡ readAnswer t bytes → (bytes ≡ tableImage (readWords t bytes)) × (0 ≡ tableRefusal product (readWords t bytes) 0)
 read-writes t bytes e =
-    let last : ℕ = orElse (inconsistent product (wordsOf product form bytes)) 3 0 in
-    let more : Bool = ltb (length t) (length (wordsOf product form bytes)) in
-    let a = else-none (badSize product t) 1 (imageRefusal bytes (length t) last) (omega arith) (sym e) in
-    let b = else-none (malformed product form bytes) 12 (orElse more 11 last) (omega arith) (a .1) in
-    let c = else-none more 11 last (omega arith) (b .1) in
-    let fits : length (wordsOf product form bytes) ≤ length t = ltb-false (length t) (length (wordsOf product form bytes)) (c .0) in
-    let held : readWords t bytes ≡ padded (length t) (wordsOf product form bytes) = sym (read-done t bytes e (padded (length t) (wordsOf product form bytes)) refl .1) in
-    let well = read-well product form bytes (b .0) in
-    let laid : badLayout product (wordsOf product form bytes) ≡ false = ap not (is-true {b = laidOut product 1 (wordsOf product form bytes)} (well .1)) in (
-      well .0 ∙ ap (imageOf product form) (sym (ap filled held ∙ held-filled t bytes (a .0) fits)),
-      sym (ap (λ w. tableRefusal product w 0) held ∙ (held-checked t bytes (a .0) fits ∙ (ap (λ n. orElse n 2 last) laid ∙ c .1))),
+    let l : List ℕ = wordsOf product form bytes in
+    let p = read-parts t bytes e in
+    let well = read-well product form bytes (p .1) in
+    let held : readWords t bytes ≡ padded (length t) l = sym (read-done t bytes e (padded (length t) l) refl .1) in
+    let laid : badLayout product l ≡ false = ap not (is-true {b = laidOut product 1 l} (well .1)) in (
+      well .0 ∙ ap (imageOf product form) (sym (ap filled held ∙ held-filled t bytes (p .0) (p .2))),
+      sym (ap (λ w. tableRefusal product w 0) held ∙ (held-checked t bytes (p .0) (p .2) ∙ (ap (λ b. orElse b 2 (orElse (inconsistent product l) 3 0)) laid ∙ p .3))),
     )

@@ -13,7 +13,7 @@ use Rattle.rdfs.specs.Lists.{concatMap}
 use Rattle.rdfs.specs.Words.{filled}
 use Rattle.rdfs.specs.Register.{orElse, tableRefusal, Table}
 use Rattle.rdfs.proofs.Steps.{table-passes, table-stops}
-use Rattle.image.specs.Form.{form}
+use Rattle.image.specs.Form.{form, firstBody}
 use Rattle.image.specs.Image.{idBytes}
 use Rattle.image.specs.Calls.{tableImage, writeAnswer, writeLength, writeBytes}
 use Rattle.image.specs.Writing.{Counted}
@@ -52,17 +52,17 @@ module _ (t out : List ℕ) where
         (sym zero-answer, s ∙ sym (ap (λ b. cond b (length (tableImage t)) 0) yes-zero), q ∙ sym (ap (λ b. cond b (tableImage t ++ drop (length (tableImage t)) out) out) yes-zero))
 
 -- The bytes after the contents are stored: those before the first body are the image's, and those after the image are as they were.
-module _ (t : List ℕ) (n : ℕ) (c : Counted t n) (out mid : List ℕ) (e : mid ≡ take 62 (tableImage t) ++ drop 62 out) where
-  long : length (take 62 (tableImage t)) ≡ 62
-  long = length-take-le 62 (tableImage t) (omega (arith, image-whole t n c))
+module _ (t : List ℕ) (n : ℕ) (c : Counted t n) (out mid : List ℕ) (e : mid ≡ take (firstBody form) (tableImage t) ++ drop (firstBody form) out) where
+  long : length (take (firstBody form) (tableImage t)) ≡ firstBody form
+  long = length-take-le (firstBody form) (tableImage t) (omega (arith, image-whole t n c))
 
-  pub stored-first : take 62 mid ≡ take 62 (tableImage t)
-  stored-first = ap (take 62) e ∙ take-at (take 62 (tableImage t)) (drop 62 out) 62 long
+  pub stored-first : take (firstBody form) mid ≡ take (firstBody form) (tableImage t)
+  stored-first = ap (take (firstBody form)) e ∙ take-at (take (firstBody form) (tableImage t)) (drop (firstBody form) out) (firstBody form) long
 
   pub stored-after : drop (length (tableImage t)) mid ≡ drop (length (tableImage t)) out
   stored-after =
       let m : ℕ = length (concatMap (idBytes product form) (filled t)) in
-      let size : length (tableImage t) ≡ 62 + m = image-whole t n c in
-      let place : 62 + m ≡ length (take 62 (tableImage t)) + m = omega (arith, long) in
-      ap (λ k. drop k mid) size ∙ (ap (drop (62 + m)) e ∙ (ap (λ k. drop k (take 62 (tableImage t) ++ drop 62 out)) place
-      ∙ (drop-append-add (take 62 (tableImage t)) (drop 62 out) m ∙ (drop-drop m 62 out ∙ ap (λ k. drop k out) (sym size)))))
+      let size : length (tableImage t) ≡ firstBody form + m = image-whole t n c in
+      let place : firstBody form + m ≡ length (take (firstBody form) (tableImage t)) + m = omega (arith, long) in
+      ap (λ k. drop k mid) size ∙ (ap (drop (firstBody form + m)) e ∙ (ap (λ k. drop k (take (firstBody form) (tableImage t) ++ drop (firstBody form) out)) place
+      ∙ (drop-append-add (take (firstBody form) (tableImage t)) (drop (firstBody form) out) m ∙ (drop-drop m (firstBody form) out ∙ ap (λ k. drop k out) (sym size)))))

@@ -1,5 +1,5 @@
 -- The numbers of an image's form, in one place, and numbers in bytes. Definitions and theorems take the form as a parameter.
-use Prim.Native.Nat.{ℕ, zero, suc, _+_, _*_, _-_, _/_, _%_, _<_}
+use Prim.Native.Nat.{ℕ, zero, suc, _+_, _*_, _-_, _/_, _%_, _^_, _<_}
 use mathlib.Core.List.{List, [], _∷_}
 use Rattle.rdfs.specs.Numbers.{arity}
 
@@ -14,9 +14,12 @@ pub record Form : Type 0 where
 abbrev pub form : Form
 form = record { edition = 1; entries = 10; idSize = 1; fieldSize = 2 }
 
--- The bytes of a fact of kind k in a body: its ids only.
+-- The bytes of a fact of kind k in a body: its ids only. The last kind has the most ids.
 abbrev pub factSize : Form → ℕ → ℕ
 factSize F k = arity k * F .idSize
+
+abbrev pub largestFact : Form → ℕ
+largestFact F = factSize F (F .entries)
 
 -- An entry: kind, bytes per fact, start, count.
 abbrev pub entrySize : Form → ℕ
@@ -38,15 +41,22 @@ kindsAfter j (suc n) = suc j ∷ kindsAfter (suc j) n
 abbrev pub kinds : Form → List ℕ
 kinds F = kindsAfter 0 (F .entries)
 
+-- The values of a byte, and of a start or a count.
+abbrev pub byteValues : ℕ
+byteValues = 256
+
+abbrev pub fieldValues : Form → ℕ
+fieldValues F = byteValues ^ F .fieldSize
+
 -- A number in n bytes, low byte first. If it is too great for n bytes, the last part is above 255 and no byte: no image has it.
 abbrev pub inBytes : ℕ → ℕ → List ℕ
 inBytes zero x = []
 inBytes (suc zero) x = x ∷ []
-inBytes (suc (suc n)) x = (x % 256) ∷ inBytes (suc n) (x / 256)
+inBytes (suc (suc n)) x = (x % byteValues) ∷ inBytes (suc n) (x / byteValues)
 
 abbrev pub fromBytes : List ℕ → ℕ
 fromBytes [] = 0
-fromBytes (b ∷ l) = b + 256 * fromBytes l
+fromBytes (b ∷ l) = b + byteValues * fromBytes l
 
 -- A form whose numbers have bytes.
 pub record Proper (F : Form) : Type 0 where

@@ -6,7 +6,7 @@ ghost use mathlib.Core.List.{List};
 ghost use lib.ListN.{length, getD};
 ghost use Rattle.rdfs.specs.Numbers.{product};
 ghost use Rattle.rdfs.specs.Words.{laidOut};
-ghost use Rattle.image.specs.Form.{form, factSize};
+ghost use Rattle.image.specs.Form.{form, byteValues, factSize};
 ghost use Rattle.image.specs.Reading.{wordAt, wordsFrom, wordsOf, malformed, bodiless};
 ghost use Rattle.image.specs.Contents.{Contents};
 ghost use Rattle.image.specs.Rising.{RisesTo};
@@ -33,7 +33,7 @@ pub enum Rise {
 // An id in a body.
 fn id_at(image: &[u8], p: usize) -> Word
     requires { ⌜ p < length (now image) ⌝ }
-    ensures { λ r. ⌜ (r ≡ getD (now (image .entry)) p 0) × (r < 256) ⌝ }
+    ensures { λ r. ⌜ (r ≡ getD (now (image .entry)) p 0) × (r < byteValues) ⌝ }
 {
     let id = byte_at(image, p);
     id as Word
@@ -41,7 +41,7 @@ fn id_at(image: &[u8], p: usize) -> Word
 
 // The word of the fact of kind k whose ids stand from place p on.
 pub fn word_at(image: &[u8], k: Word, p: usize) -> Word
-    requires { ⌜ (1 ≤ k) × (k ≤ 10) × (p + factSize form k ≤ length (now image)) ⌝ }
+    requires { ⌜ (1 ≤ k) × (k ≤ form .entries) × (p + factSize form k ≤ length (now image)) ⌝ }
     ensures { λ r. ⌜ r ≡ wordAt product form (now (image .entry)) k p ⌝ }
 {
     let n = arity_of(k);
@@ -59,7 +59,7 @@ pub fn word_at(image: &[u8], k: Word, p: usize) -> Word
 
 // Whether the count facts of kind k from place `from` on are facts, each above the one before, the first above `last`.
 fn rise_of(image: &[u8], k: Word, from: usize, count: usize, last: Word) -> Rise
-    requires { ⌜ (1 ≤ k) × (k ≤ 10) × (from + factSize form k * count ≤ length (now image)) ⌝ }
+    requires { ⌜ (1 ≤ k) × (k ≤ form .entries) × (from + factSize form k * count ≤ length (now image)) ⌝ }
     ensures { λ r. ⌜ ((rest : List ℕ) → RisesTo last (wordsFrom product form (now (image .entry)) k count from) rest r) ⌝ }
 {
     let size = fact_size(k);

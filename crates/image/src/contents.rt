@@ -3,7 +3,7 @@ ghost use mathlib.Core.Path.{_≡_};
 ghost use Prim.Native.Nat.{_+_, _≤_, _<_};
 ghost use lib.ListN.{length, getD};
 ghost use Rattle.table.specs.Answers.{Decides};
-ghost use Rattle.image.specs.Form.{form, firstBody};
+ghost use Rattle.image.specs.Form.{form, byteValues, fieldValues, firstBody};
 ghost use Rattle.image.specs.Reading.{numberAt, startAt, countAt};
 ghost use Rattle.image.specs.Contents.{Entry, Linked, Contents};
 use crate::form::BYTE;
@@ -19,7 +19,7 @@ use table::Word;
 // A byte of the image.
 pub fn byte_at(image: &[u8], i: usize) -> usize
     requires { ⌜ i < length (now image) ⌝ }
-    ensures { λ r. ⌜ (r ≡ getD (now (image .entry)) i 0) × (r < 256) ⌝ }
+    ensures { λ r. ⌜ (r ≡ getD (now (image .entry)) i 0) × (r < byteValues) ⌝ }
 {
     image[i] as usize
 }
@@ -27,7 +27,7 @@ pub fn byte_at(image: &[u8], i: usize) -> usize
 // A start or a count: 16 bits, low byte first.
 pub fn number_at(image: &[u8], i: usize) -> usize
     requires { ⌜ i + form .fieldSize ≤ length (now image) ⌝ }
-    ensures { λ r. ⌜ (r ≡ numberAt (form .fieldSize) (now (image .entry)) i) × (r < 65536) ⌝ }
+    ensures { λ r. ⌜ (r ≡ numberAt (form .fieldSize) (now (image .entry)) i) × (r < fieldValues form) ⌝ }
 {
     let low = byte_at(image, i);
     let high = byte_at(image, i + 1);
@@ -36,7 +36,7 @@ pub fn number_at(image: &[u8], i: usize) -> usize
 
 // What the entry of kind k gives as the start of its body.
 pub fn start_at(image: &[u8], k: Word) -> usize
-    requires { ⌜ (1 ≤ k) × (k ≤ 10) × (firstBody form ≤ length (now image)) ⌝ }
+    requires { ⌜ (1 ≤ k) × (k ≤ form .entries) × (firstBody form ≤ length (now image)) ⌝ }
     ensures { λ r. ⌜ r ≡ startAt form (now (image .entry)) k ⌝ }
 {
     let at = entry_at(k);
@@ -45,8 +45,8 @@ pub fn start_at(image: &[u8], k: Word) -> usize
 
 // What the entry of kind k gives as the count of its facts.
 pub fn count_at(image: &[u8], k: Word) -> usize
-    requires { ⌜ (1 ≤ k) × (k ≤ 10) × (firstBody form ≤ length (now image)) ⌝ }
-    ensures { λ r. ⌜ (r ≡ countAt form (now (image .entry)) k) × (r < 65536) ⌝ }
+    requires { ⌜ (1 ≤ k) × (k ≤ form .entries) × (firstBody form ≤ length (now image)) ⌝ }
+    ensures { λ r. ⌜ (r ≡ countAt form (now (image .entry)) k) × (r < fieldValues form) ⌝ }
 {
     let at = entry_at(k);
     number_at(image, at + FIELDS + FIELD_SIZE)
@@ -54,7 +54,7 @@ pub fn count_at(image: &[u8], k: Word) -> usize
 
 // Whether the entry of kind k is right, if its body starts at `start`.
 fn is_entry(image: &[u8], k: Word, start: usize) -> bool
-    requires { ⌜ (1 ≤ k) × (k ≤ 10) × (firstBody form ≤ length (now image)) ⌝ }
+    requires { ⌜ (1 ≤ k) × (k ≤ form .entries) × (firstBody form ≤ length (now image)) ⌝ }
     ensures { λ r. ⌜ Decides r (Entry form (now (image .entry)) k start) ⌝ }
 {
     let at = entry_at(k);

@@ -1,7 +1,7 @@
 // The numbers of an image's form, and where its entries stand.
 ghost use mathlib.Core.Path.{_≡_};
 ghost use Prim.Native.Nat.{_≤_};
-ghost use Rattle.image.specs.Form.{form, factSize, entrySize, entryAt, firstBody};
+ghost use Rattle.image.specs.Form.{form, factSize, largestFact, entrySize, entryAt, firstBody};
 use table::Word;
 use table::arity_of;
 
@@ -23,6 +23,8 @@ pub const FIELDS: usize = 2;
 pub const ENTRY_SIZE: usize = 6;
 
 pub const FIRST_BODY: usize = 62;
+// The most bytes of a fact in a body.
+pub const LARGEST_FACT: usize = 3;
 
 // The numbers that the definitions take as parameters, and those that follow from them.
 pub struct Sizes {
@@ -32,11 +34,12 @@ pub struct Sizes {
     pub field: usize,
     pub entry: usize,
     pub first: usize,
+    pub fact: usize,
 }
 
 // The constants are the definitions' numbers.
 pub fn numbers() -> Sizes
-    ensures { λ r. ⌜ (record { edition = r .edition; entries = r .entries; idSize = r .id; fieldSize = r .field } ≡ form) × (r .entry ≡ entrySize form) × (r .first ≡ firstBody form) ⌝ }
+    ensures { λ r. ⌜ (record { edition = r .edition; entries = r .entries; idSize = r .id; fieldSize = r .field } ≡ form) × (r .entry ≡ entrySize form) × (r .first ≡ firstBody form) × (r .fact ≡ largestFact form) ⌝ }
 {
     Sizes {
         edition: EDITION,
@@ -45,12 +48,13 @@ pub fn numbers() -> Sizes
         field: FIELD_SIZE,
         entry: ENTRY_SIZE,
         first: FIRST_BODY,
+        fact: LARGEST_FACT,
     }
 }
 
 // The bytes of a fact of kind k.
 pub fn fact_size(k: Word) -> usize
-    ensures { λ r. ⌜ (r ≡ factSize form k) × (r ≤ 3) ⌝ }
+    ensures { λ r. ⌜ (r ≡ factSize form k) × (r ≤ largestFact form) ⌝ }
 {
     let n = arity_of(k) as usize;
     n * ID_SIZE
@@ -58,7 +62,7 @@ pub fn fact_size(k: Word) -> usize
 
 // Where the entry of kind k stands.
 pub fn entry_at(k: Word) -> usize
-    requires { ⌜ (1 ≤ k) × (k ≤ 10) ⌝ }
+    requires { ⌜ (1 ≤ k) × (k ≤ form .entries) ⌝ }
     ensures { λ r. ⌜ r ≡ entryAt form k ⌝ }
 {
     let before = (k - 1) as usize;

@@ -56,7 +56,7 @@ pub fn overfull_refusal(image: &[u8]) -> u8
 
 // Stores the words of the count facts of kind k from place `from` on, from place `place` of the table on.
 fn fill_body(t: &mut [Word], place: usize, image: &[u8], k: Word, from: usize, count: usize)
-    requires { ⌜ (1 ≤ k) × (k ≤ 10) × (from + factSize form k * count ≤ length (now image)) × (place + count ≤ length (now t)) ⌝ }
+    requires { ⌜ (1 ≤ k) × (k ≤ form .entries) × (from + factSize form k * count ≤ length (now image)) × (place + count ≤ length (now t)) ⌝ }
     ensures { λ _. ⌜ now (t .exit) ≡ paste (now (t .entry)) place (wordsFrom product form (now (image .entry)) k count from) count ⌝ }
 {
     let size = fact_size(k);

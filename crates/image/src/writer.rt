@@ -6,7 +6,7 @@ ghost use lib.Dec.{T};
 ghost use lib.ListN.{length, set, take, drop};
 ghost use Rattle.rdfs.specs.Numbers.{product};
 ghost use Rattle.rdfs.specs.Words.{isFact, filled};
-ghost use Rattle.image.specs.Form.{form, entryAt, firstBody};
+ghost use Rattle.image.specs.Form.{form, byteValues, fieldValues, entryAt, firstBody};
 ghost use Rattle.image.specs.Image.{ofKind, idBytes, entry};
 ghost use Rattle.image.specs.Calls.{tableImage};
 ghost use Rattle.image.specs.Writing.{Counted, over};
@@ -29,8 +29,8 @@ use table::word_of;
 
 // How many facts of kind k a table has.
 pub fn kind_count(t: &[Word], n: usize, k: Word) -> usize
-    requires { ⌜ Counted (now t) n × (k ≤ 10) ⌝ }
-    ensures { λ r. ⌜ (r ≡ length (ofKind product k (filled (now (t .entry))))) × (r ≤ 2048) ⌝ }
+    requires { ⌜ Counted (now t) n × (k ≤ form .entries) ⌝ }
+    ensures { λ r. ⌜ (r ≡ length (ofKind product k (filled (now (t .entry))))) × (r ≤ product .most) ⌝ }
 {
     let first = word_of(k, 0, 0, 0);
     let next = word_of(k + 1, 0, 0, 0);
@@ -42,7 +42,7 @@ pub fn kind_count(t: &[Word], n: usize, k: Word) -> usize
 // The length of a table's image.
 pub fn image_length(t: &[Word], n: usize) -> usize
     requires { ⌜ Counted (now t) n ⌝ }
-    ensures { λ r. ⌜ (r ≡ length (tableImage (now (t .entry)))) × (r < 65536) ⌝ }
+    ensures { λ r. ⌜ (r ≡ length (tableImage (now (t .entry)))) × (r < fieldValues form) ⌝ }
 {
     let mut done: Word = 0;
     let mut start = FIRST_BODY;
@@ -58,8 +58,8 @@ pub fn image_length(t: &[Word], n: usize) -> usize
 
 // Stores a start or a count: 16 bits, low byte first.
 fn put_number(output: &mut [u8], at: usize, value: usize)
-    requires { ⌜ (at + 2 ≤ length (now output)) × (value < 65536) ⌝ }
-    ensures { λ _. ⌜ now (output .exit) ≡ set (set (now (output .entry)) at (value % 256)) (at + 1) (value / 256) ⌝ }
+    requires { ⌜ (at + form .fieldSize ≤ length (now output)) × (value < fieldValues form) ⌝ }
+    ensures { λ _. ⌜ now (output .exit) ≡ set (set (now (output .entry)) at (value % byteValues)) (at + 1) (value / byteValues) ⌝ }
 {
     output[at] = (value % BYTE) as u8;
     output[at + 1] = (value / BYTE) as u8;
@@ -67,7 +67,7 @@ fn put_number(output: &mut [u8], at: usize, value: usize)
 
 // Stores the entry of kind k.
 fn put_entry(output: &mut [u8], k: Word, start: usize, count: usize)
-    requires { ⌜ (1 ≤ k) × (k ≤ 10) × (firstBody form ≤ length (now output)) × (start < 65536) × (count < 65536) ⌝ }
+    requires { ⌜ (1 ≤ k) × (k ≤ form .entries) × (firstBody form ≤ length (now output)) × (start < fieldValues form) × (count < fieldValues form) ⌝ }
     ensures { λ _. ⌜ now (output .exit) ≡ over (now (output .entry)) (entryAt form k) (entry form k start count) ⌝ }
 {
     let at = entry_at(k);

@@ -4,11 +4,10 @@ use crate::report::print_bytes;
 use crate::report::print_number;
 use crate::report::print_test;
 use crate::report::print_text;
+use image::FIRST_BODY;
 use image::body;
 
-// The bytes of an image before its bodies, and how many kinds there are.
-const FIRST_BODY: usize = 62;
-
+// How many kinds there are.
 const KINDS: u8 = 10;
 
 // Prints a kind's body, which stands at place `at` of the image, and whether the image has its bytes there. The answer is where it ends,

@@ -2,6 +2,8 @@
 // prints nothing. Input longer than the longest image is refused, not cut.
 mod text;
 
+use image::FIRST_BODY;
+use image::LARGEST_FACT;
 use image::read;
 use libc::STDIN_FILENO;
 use libc::STDOUT_FILENO;
@@ -9,12 +11,8 @@ use table::MOST;
 use table::Word;
 use text::put_lines;
 
-// The bytes of an image before its bodies, and the most bytes of a fact in a body.
-const FIRST_BODY: usize = 62;
-
-const FACT_BYTES: usize = 3;
 // No image of a table is longer.
-const LONGEST: usize = FIRST_BODY + FACT_BYTES * MOST;
+const LONGEST: usize = FIRST_BODY + LARGEST_FACT * MOST;
 
 // Prints the facts of a table of at most 2,048 words.
 fn print_facts(t: &[Word; MOST]) {

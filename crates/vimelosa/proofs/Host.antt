@@ -1,6 +1,6 @@
 -- The ways through the host's call: refused by reading, by the ticket, by writing, and done. Assumes nothing.
 use Prim.Native.Nat.{ℕ}
-use mathlib.Core.Path.{_≡_, sym, ap, subst, _∙_}
+use mathlib.Core.Path.{_≡_, refl, sym, ap, subst, _∙_}
 use mathlib.Core.Bool.{cond}
 use mathlib.Core.List.{List}
 use lib.Dec.{eqb}
@@ -17,16 +17,16 @@ use Rattle.ticket.specs.declared.Applied.{Applied}
 use Rattle.vimelosa.specs.Host.{packed, refusedElse, room, applied, hostAnswer, hostOutput}
 
 -- A refusal is the answer, and for 0 what comes after; the bytes likewise.
-refused-is : (n rest : ℕ) → (n ≡ 0 → ⊥) → refusedElse n rest ≡ packed n 0 0 0
+pub refused-is : (n rest : ℕ) → (n ≡ 0 → ⊥) → refusedElse n rest ≡ packed n 0 0 0
 refused-is n rest h = ap (λ b. cond b rest (packed n 0 0 0)) (ne-eqb n 0 h)
 
-passed-is : (n rest : ℕ) → n ≡ 0 → refusedElse n rest ≡ rest
+pub passed-is : (n rest : ℕ) → n ≡ 0 → refusedElse n rest ≡ rest
 passed-is n rest e = ap (λ b. cond b rest (packed n 0 0 0)) (eq-eqb n 0 e)
 
 refused-keeps : (n : ℕ) (new old : List ℕ) → (n ≡ 0 → ⊥) → cond (eqb n 0) new old ≡ old
 refused-keeps n new old h = ap (λ b. cond b new old) (ne-eqb n 0 h)
 
-passed-leaves : (n : ℕ) (new old : List ℕ) → n ≡ 0 → cond (eqb n 0) new old ≡ new
+pub passed-leaves : (n : ℕ) (new old : List ℕ) → n ≡ 0 → cond (eqb n 0) new old ≡ new
 passed-leaves n new old e = ap (λ b. cond b new old) (eq-eqb n 0 e)
 
 -- What the call promises of its number r and of the bytes v that it leaves.
@@ -38,6 +38,10 @@ pub read-table : (image : List ℕ) (n : ℕ) {w : List ℕ} → n ≡ readAnswe
 read-table image n e z h = subst (Table product) (sym h) (checked-table product (readWords room image) (sym (read-writes room image (sym z ∙ e) .1)))
 
 -- So are those that a ticket leaves.
+pub applied-table : (image ticket : List ℕ) → readAnswer room image ≡ 0 → Table product (applied image ticket .table)
+unfolding applied
+applied-table image ticket e = after product product-sound (readWords room image) ticket (read-table image 0 (sym e) refl refl) .rules
+
 pub left-table : {w v : List ℕ} (ticket : List ℕ) → Table product w → (a : Applied) → Answered a v (step product w ticket) → Table product v
 left-table {w} ticket t a did = subst (Table product) (sym (did .words)) (after product product-sound w ticket t .rules)
 

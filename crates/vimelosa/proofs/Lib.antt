@@ -1,3 +1,4 @@
--- Host: each way through `vimelosa_apply`. Theorems: which refusals its steps can give.
+-- Host: each way through `vimelosa_apply`. Saved: what an accepted call leaves in the output. Theorems: what is proved beside its promise.
 pub mod Host
+pub mod Saved
 pub mod Theorems

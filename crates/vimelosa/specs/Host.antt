@@ -1,5 +1,5 @@
 -- What the host's call answers and what it leaves in the output, for all bytes: reading, a ticket, writing.
-use Prim.Native.Nat.{ℕ, _+_, _*_}
+use Prim.Native.Nat.{ℕ, _+_, _*_, _/_, _%_}
 use mathlib.Core.Bool.{cond}
 use mathlib.Core.List.{List}
 use lib.Dec.{eqb}
@@ -11,6 +11,13 @@ use Rattle.image.specs.Calls.{readAnswer, readWords, writeAnswer, writeLength, 
 -- Four numbers of 16 bits each, lowest first.
 abbrev pub packed : ℕ → ℕ → ℕ → ℕ → ℕ
 packed answer added removed length = answer + 65536 * (added + 65536 * (removed + 65536 * length))
+
+-- The answer and the image's length in such a number.
+abbrev pub answerIn : ℕ → ℕ
+answerIn r = r % 65536
+
+abbrev pub lengthIn : ℕ → ℕ
+lengthIn r = r / 65536 / 65536 / 65536
 
 -- A refusal with the other three 0; for 0, what comes after.
 abbrev pub refusedElse : ℕ → ℕ → ℕ

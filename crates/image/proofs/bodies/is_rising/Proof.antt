@@ -13,7 +13,7 @@ abbrev Inv-loop : tie.InvT-loop
 Inv-loop image done₀ last₀ done last = Climbed image done last
 
 abbrev μ-loop : tie.MeasureT-loop
-μ-loop image done₀ last₀ done last = 10 - done
+μ-loop image done₀ last₀ done last = form .entries - done
 
 loop-holds : tie.Need-loop-holds Inv-loop μ-loop
 loop-holds c = climbed-start _

@@ -1,7 +1,7 @@
 -- `contents::has_contents`: each test is one part of the contents. Assumes nothing.
 use native.Mathlib.Omega.{arith}
 use mathlib.Core.Path.{sym, _∙_}
-use Rattle.image.specs.Form.{form}
+use Rattle.image.specs.Form.{form, firstBody}
 use Rattle.image.proofs.ImageAgain.{chained-within}
 use Rattle.image.proofs.Deciding.{decides-as}
 use borrow.Author.Needs.{needs}
@@ -9,7 +9,7 @@ use Rattle.image.proofs.contents.has_contents.Statement.{statement}
 use Rattle.image.proofs.contents.has_contents.Tie as tie
 
 returns : tie.Need-returns
-returns c = λ h. omega (arith, c .if1 .taken, chained-within form (c .before .before .args .image .now) 10 0 62 (h .linked .chain))
+returns c = λ h. omega (arith, c .if1 .taken, chained-within form (c .before .before .args .image .now) (form .entries) 0 (firstBody form) (h .linked .chain))
 
 byte-at-requires : tie.Need-byte-at-requires
 byte-at-requires c κs = search needs

@@ -3,6 +3,7 @@ use native.Mathlib.Omega.{arith}
 use Prim.Native.Nat.{_-_}
 use borrow.Author.Tests.{not-true, not-false}
 use Rattle.table.proofs.Answers.{decides-true, decides-false}
+use Rattle.image.specs.Form.{form}
 use Rattle.image.proofs.Linking.{product-small, Walk, walk-start, walk-more, walk-wrong, walk-end}
 use borrow.Author.Needs.{needs}
 use Rattle.image.proofs.contents.is_chained.Statement.{statement}
@@ -12,7 +13,7 @@ abbrev Inv-loop : tie.InvT-loop
 Inv-loop image done₀ start₀ done start = Walk image done start
 
 abbrev μ-loop : tie.MeasureT-loop
-μ-loop image done₀ start₀ done start = 10 - done
+μ-loop image done₀ start₀ done start = form .entries - done
 
 loop-holds : tie.Need-loop-holds Inv-loop μ-loop
 loop-holds c = walk-start _

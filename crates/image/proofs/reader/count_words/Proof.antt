@@ -11,7 +11,7 @@ abbrev Inv-loop : tie.InvT-loop
 Inv-loop image done₀ total₀ done total = Passed image done total
 
 abbrev μ-loop : tie.MeasureT-loop
-μ-loop image done₀ total₀ done total = 10 - done
+μ-loop image done₀ total₀ done total = form .entries - done
 
 loop-holds : tie.Need-loop-holds Inv-loop μ-loop
 loop-holds c = passed-start _

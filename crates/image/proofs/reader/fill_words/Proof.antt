@@ -11,7 +11,7 @@ abbrev Inv-loop : tie.InvT-loop
 Inv-loop t₀ image done₀ place₀ t done place = Filled image t₀ t done place
 
 abbrev μ-loop : tie.MeasureT-loop
-μ-loop t₀ image done₀ place₀ t done place = 10 - done
+μ-loop t₀ image done₀ place₀ t done place = form .entries - done
 
 loop-holds : tie.Need-loop-holds Inv-loop μ-loop
 loop-holds c = filled-start _ _

@@ -2,6 +2,7 @@
 use native.Mathlib.Omega.{arith}
 use Prim.Native.Nat.{_-_}
 use Rattle.rdfs.specs.Words.{filled}
+use Rattle.image.specs.Form.{form}
 use Rattle.image.proofs.Linking.{product-small}
 use Rattle.image.proofs.Measuring.{image-small, Measured, measured-start, measured-within, measured-more, measured-all}
 use borrow.Author.Needs.{needs}
@@ -12,7 +13,7 @@ abbrev Inv-loop : tie.InvT-loop
 Inv-loop t n done₀ start₀ done start = Measured (filled t) done start
 
 abbrev μ-loop : tie.MeasureT-loop
-μ-loop t n done₀ start₀ done start = 10 - done
+μ-loop t n done₀ start₀ done start = form .entries - done
 
 loop-holds : tie.Need-loop-holds Inv-loop μ-loop
 loop-holds c = measured-start _

@@ -4,6 +4,7 @@ use mathlib.Core.Path.{_∙_}
 use Prim.Native.Nat.{_-_}
 use lib.ListN.{length-set}
 use Rattle.rdfs.specs.Words.{filled}
+use Rattle.image.specs.Form.{form}
 use Rattle.image.proofs.Linking.{product-small}
 use Rattle.image.proofs.Measuring.{image-whole, image-small, measured-within}
 use Rattle.image.proofs.PutParts.{Entered, entered-start, entered-length, entered-more, entered-done}
@@ -15,7 +16,7 @@ abbrev Inv-loop : tie.InvT-loop
 Inv-loop t n output₀ done₀ start₀ output done start = Entered (filled t) output₀ output done start
 
 abbrev μ-loop : tie.MeasureT-loop
-μ-loop t n output₀ done₀ start₀ output done start = 10 - done
+μ-loop t n output₀ done₀ start₀ output done start = form .entries - done
 
 cast-output : tie.Need-cast-output Inv-loop μ-loop
 cast-output c = omega arith

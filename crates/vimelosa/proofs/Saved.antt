@@ -1,0 +1,116 @@
+-- What an accepted call leaves in the output, cut to the length that it answers: the image of what the ticket left. Assumes nothing.
+use Prim.Native.Nat.{ℕ, _≤_, _<_}
+use mathlib.Core.Path.{_≡_, refl, sym, ap, subst, _∙_}
+use mathlib.Core.Bool.{Bool, true, false, not, cond}
+use mathlib.Core.List.{List, _++_}
+use native.Mathlib.Omega.{arith}
+use native.Mathlib.Decide.{ℕ-discrete}
+use lib.Dec.{eqb, ltb, lit<}
+use lib.ListN.{length, take, drop}
+use lib.Seq.{take-at}
+use borrow.Author.Tests.{eq-eqb}
+use Rattle.rdfs.specs.Numbers.{product}
+use Rattle.rdfs.specs.Lists.{member}
+use Rattle.rdfs.specs.Words.{filled, facts, words}
+use Rattle.rdfs.specs.Tickets.{Ticket, decoded, badLength, badOperation, badKind, badIds, guarded, unknownProperty, clashing}
+use Rattle.rdfs.specs.Register.{Answer, orElse, badSize, badLayout, inconsistent, tableRefusal, tooMany}
+use Rattle.rdfs.proofs.Filters.{filter-split}
+use Rattle.rdfs.proofs.Refusals.{new, passed}
+use Rattle.rdfs.proofs.Steps.{step-number, accepted-leaves, room-fits, step-length}
+use Rattle.table.proofs.Filled.{filled-within}
+use Rattle.image.specs.Form.{form}
+use Rattle.image.specs.Reading.{wordsOf, malformed}
+use Rattle.image.specs.Calls.{tableImage, readAnswer, readWords, writeAnswer, writeLength, writeBytes}
+use Rattle.image.proofs.ReadCall.{read-length}
+use Rattle.vimelosa.specs.Host.{packed, answerIn, lengthIn, refusedElse, room, applied, hostAnswer, hostOutput}
+use Rattle.vimelosa.proofs.Host.{refused-is, passed-is, passed-leaves, read-table}
+
+-- A refusal fits its field.
+else-small : (b : Bool) (n rest : ℕ) → n < 65536 → rest < 65536 → orElse b n rest < 65536
+else-small true n rest p q = p
+else-small false n rest p q = q
+
+-- An answer of 0 is not a refusal's.
+accepted-passes : (n rest : ℕ) → n < 65536 → answerIn (refusedElse n rest) ≡ 0 → (n ≡ 0) × (refusedElse n rest ≡ rest)
+accepted-passes n rest h e = elim (ℕ-discrete n 0) [
+  | yes z ↦ (z, passed-is n rest z)
+  | no q ↦ let own : n ≡ answerIn (packed n 0 0 0) = omega (arith, h) in absurd (q (own ∙ (ap answerIn (sym (refused-is n rest q)) ∙ e)))
+]
+
+packed-length : (a r l : ℕ) → a < 65536 → r < 65536 → lengthIn (packed 0 a r l) ≡ l
+packed-length a r l p q = omega (arith, p, q)
+
+module _ (image ticket output : List ℕ) where
+  abbrev s : Answer
+  s = applied image ticket
+
+  abbrev w : List ℕ
+  w = readWords room image
+
+  -- The call's steps, accepted one after another.
+  pub record Accepted : Type 0 where
+    pub read : readAnswer room image ≡ 0
+    pub number : s .number ≡ 0
+    pub write : writeAnswer (s .table) output ≡ 0
+    pub answer : hostAnswer image ticket output ≡ packed 0 (s .added) (s .removed) (writeLength (s .table) output)
+
+  read-small : readAnswer room image < 65536
+  read-small =
+      let l : List ℕ = wordsOf product form image in
+      else-small (malformed product form image) 12 _ (lit< tt) (else-small (ltb (product .most) (length l)) 11 _ (lit< tt) (else-small (inconsistent product l) 3 0 (lit< tt) (lit< tt)))
+
+  -- 1 to 3 of a table, then others.
+  table-small : (t : List ℕ) (rest : ℕ) → rest < 65536 → tableRefusal product t rest < 65536
+  table-small t rest h = else-small (badSize product t) 1 _ (lit< tt) (else-small (badLayout product t) 2 _ (lit< tt) (else-small (inconsistent product t) 3 rest (lit< tt) h))
+
+  number-small : s .number < 65536
+  unfolding applied
+  number-small =
+      let t : Ticket = decoded ticket in
+      subst (λ n. n < 65536) (sym (step-number product w ticket)) (table-small w _
+      (else-small (badLength ticket) 4 _ (lit< tt) (else-small (badOperation t) 5 _ (lit< tt) (else-small (badKind t) 6 _ (lit< tt) (else-small (badIds (product .top) t) 7 _ (lit< tt)
+      (else-small (guarded t) 8 _ (lit< tt) (else-small (unknownProperty (facts product w) t) 9 _ (lit< tt) (else-small (clashing (new product w ticket) t) 10 _ (lit< tt)
+      (else-small (tooMany product w (new product w ticket)) 11 0 (lit< tt) (lit< tt))))))))))
+
+  write-small : writeAnswer (s .table) output < 65536
+  write-small = table-small (s .table) _ (else-small (ltb (length output) (length (tableImage (s .table)))) 13 0 (lit< tt) (lit< tt))
+
+  pub accepted : answerIn (hostAnswer image ticket output) ≡ 0 → Accepted
+  unfolding hostAnswer
+  accepted e =
+      let counts : ℕ = packed 0 (s .added) (s .removed) (writeLength (s .table) output) in
+      let later : ℕ = refusedElse (writeAnswer (s .table) output) counts in
+      let a = accepted-passes (readAnswer room image) (refusedElse (s .number) later) read-small e in
+      let b = accepted-passes (s .number) later number-small (ap answerIn (sym (a .1)) ∙ e) in
+      let c = accepted-passes (writeAnswer (s .table) output) counts write-small (ap answerIn (sym (a .1 ∙ b .1)) ∙ e) in
+      record { read = a .0; number = b .0; write = c .0; answer = a .1 ∙ (b .1 ∙ c .1) }
+
+  pub left-length : length (s .table) ≡ product .most
+  unfolding applied
+  left-length = step-length product w ticket ∙ read-length room image
+
+  module _ (a : Accepted) where
+    -- No more facts come or go than a table has words.
+    counts-small : (s .added < 65536) × (s .removed < 65536)
+    unfolding applied
+    counts-small =
+        let long : length w ≡ product .most = read-length room image in
+        let ws : List ℕ = words product (new product w ticket) in
+        let l = accepted-leaves product w ticket (a .number) in
+        let fits : length ws ≤ length w = room-fits product w (new product w ticket) (passed product w ticket (sym (step-number product w ticket) ∙ a .number) .room) in
+        let laid = read-table image 0 (sym (a .read)) refl refl .laid in (
+          omega (arith, l .added, filter-split (λ x. not (member (filled w) x)) ws, fits, long),
+          omega (arith, l .removed, filter-split (λ x. not (member ws x)) (filled w), filled-within product w laid, long),
+        )
+
+    pub saved-image : take (lengthIn (hostAnswer image ticket output)) (hostOutput image ticket output) ≡ tableImage (s .table)
+    unfolding hostOutput
+    saved-image =
+        let out : List ℕ = tableImage (s .table) in
+        let yes-zero : eqb (writeAnswer (s .table) output) 0 ≡ true = eq-eqb (writeAnswer (s .table) output) 0 (a .write) in
+        let size : lengthIn (hostAnswer image ticket output) ≡ length out =
+        ap lengthIn (a .answer) ∙ (packed-length (s .added) (s .removed) (writeLength (s .table) output) (counts-small .0) (counts-small .1) ∙ ap (λ b. cond b (length out) 0) yes-zero) in
+        let left : hostOutput image ticket output ≡ out ++ drop (length out) output =
+        passed-leaves (readAnswer room image) (cond (eqb (s .number) 0) (writeBytes (s .table) output) output) output (a .read)
+        ∙ (passed-leaves (s .number) (writeBytes (s .table) output) output (a .number) ∙ ap (λ b. cond b (out ++ drop (length out) output) output) yes-zero) in
+        ap (λ n. take n (hostOutput image ticket output)) size ∙ (ap (take (length out)) left ∙ take-at out (drop (length out) output) (length out) refl)
