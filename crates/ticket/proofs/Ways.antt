@@ -2,14 +2,15 @@
 use Prim.Native.Nat.{ℕ, _-_, _≤_, _<_}
 use mathlib.Core.Path.{_≡_, refl, sym, ap, subst, _∙_}
 use mathlib.Core.Bool.{Bool, true, false}
-use mathlib.Core.List.{List}
+use mathlib.Core.List.{List, _++_}
 use native.Mathlib.Omega.{arith}
 use lib.Dec.{T, ltb→lt}
-use lib.ListN.{length, replicate, length-append}
+use lib.ListN.{length, take, drop, replicate, length-append, length-drop}
+use lib.Seq.{take-append-seam}
 use Rattle.rdfs.specs.Numbers.{product}
 use Rattle.rdfs.specs.Lists.{all}
 use Rattle.rdfs.specs.Facts.{made, has}
-use Rattle.rdfs.specs.Words.{words, padded}
+use Rattle.rdfs.specs.Words.{filled, words, padded}
 use Rattle.rdfs.specs.Clashes.{clashes}
 use Rattle.rdfs.specs.Insertion.{insertion}
 use Rattle.rdfs.specs.Deletion.{deletion}
@@ -17,12 +18,15 @@ use Rattle.rdfs.specs.Tickets.{asked, unknownProperty}
 use Rattle.rdfs.specs.Lookups.{lookupClash}
 use Rattle.rdfs.specs.Register.{orElse, tooMany, step}
 use Rattle.rdfs.proofs.Facts.{tests-all-has}
+use Rattle.rdfs.proofs.LaidOut.{laid-shape}
 use Rattle.rdfs.proofs.TicketTests.{known-kind, uses-known}
 use Rattle.rdfs.proofs.Refusals.{Formed}
 use Rattle.rdfs.proofs.Theorems.{product-sound}
 use Rattle.rdfs.proofs.InsertionSteps.{new-is}
 use Rattle.rdfs.proofs.Within.{repeated-insertion}
 use Rattle.table.specs.Counted.{factsOf}
+use Rattle.table.specs.Room.{clearedFrom}
+use Rattle.table.proofs.Filled.{counted-filled, counted-ascending}
 use Rattle.insertion.specs.Answers.{Insertable, GrowMeans}
 use Rattle.insertion.specs.declared.put.Grown.{Grown}
 use Rattle.insertion.specs.declared.put.Grown.the-variants.{Facts as Grows, Full}
@@ -41,6 +45,14 @@ fails e t = subst T e t
 -- Words that fill no more than the list they are padded in.
 padded-room : (l x : List ℕ) (n : ℕ) → x ≡ padded n l → length x ≡ n → length l ≤ n
 padded-room l x n e h = omega (arith, ap length e, length-append l (replicate (n - length l) 0))
+
+-- Words s stored at the front of t, and zeros after them.
+pub put-back-leaves : (t s u : List ℕ) → length s ≤ length t → u ≡ s → clearedFrom (u ++ drop (length s) t) (length s) ≡ padded (length t) s
+put-back-leaves t s u h e =
+    let r : List ℕ = drop (length s) t in
+    let whole : length (s ++ r) ≡ length t = omega (arith, length-append s r, length-drop (length s) t) in
+    ap (λ l. clearedFrom (l ++ r) (length s)) e
+    ∙ (ap (λ l. l ++ replicate (length (s ++ r) - length s) 0) (take-append-seam s r) ∙ ap (λ j. s ++ replicate (j - length s) 0) whole)
 
 module _ {w : List ℕ} {n o k a b c : ℕ} (r : Ready w n o k a b c) where
   ready-formed : Formed product (recordOf o k a b c)
@@ -100,22 +112,29 @@ possible-insertable {w} {n} {k} {a} {b} {c} p =
       free = λ h. fails (p .free) (subst T (sym (looked-clash w bytes (r .table) f tt (fails (p .known)) ∙ ap clashes (new-is product product-sound w bytes (r .table) tt))) h);
     }
 
+pub possible-within : {w : List ℕ} {n k a b c : ℕ} → Possible w n k a b c → n ≤ length w
+possible-within {w} {n} p = counted-ascending product w (p .ready .table .laid) n (p .ready .size) .0
+
+pub possible-fits : {w : List ℕ} {n k a b c : ℕ} → Possible w n k a b c → n ≤ product .most
+possible-fits p = omega (arith, possible-within p, p .ready .table .fits)
+
 -- 11 as the register's number.
 no-room : (b : Bool) → 11 ≡ orElse b 11 0 → T b
 no-room true e = tt
 no-room false e = absurd (omega (arith, e))
 
--- What the growth of a copy e of the table says.
-module _ {w : List ℕ} {n k a b c : ℕ} (p : Possible w n k a b c) (e x : List ℕ) (same : e ≡ w) where
-  pub way-no-room : (g : Grown) → g ≡ Full → GrowMeans e (ticketOf 1 k a b c) x g → Stepped n (Refused 11) w (step product w (recordOf 1 k a b c))
-  way-no-room g f h =
-      let over = no-room (tooMany product e (insertion (product .top) (factsOf e) (asked (ticketOf 1 k a b c)))) (subst (GrowMeans e (ticketOf 1 k a b c) x) f h .0) in
-      way-full p (subst (λ v. length v < length (grownWords v k a b c)) same (ltb→lt (length e) (length (grownWords e k a b c)) over))
+-- What the growth of the table w to x says.
+module _ {w : List ℕ} {n k a b c : ℕ} (p : Possible w n k a b c) (x : List ℕ) where
+  -- There is no room, and the saved words are put back.
+  pub way-no-room : {s z : List ℕ} → s ≡ take n w → z ≡ padded (length x) s → (g : Grown) → g ≡ Full → GrowMeans w (ticketOf 1 k a b c) x g
+      → Stepped n (Refused 11) z (step product w (recordOf 1 k a b c))
+  way-no-room {s} saved back g f h =
+      let q = subst (GrowMeans w (ticketOf 1 k a b c) x) f h in
+      let over = no-room (tooMany product w (insertion (product .top) (factsOf w) (asked (ticketOf 1 k a b c)))) (q .0) in
+      let t = ready-asked (p .ready) .table in
+      let facts-saved : s ≡ filled w = saved ∙ counted-filled product w (t .laid) n (t .size) in
+      let again = back ∙ (ap (λ j. padded j s) (q .1) ∙ (ap (padded (length w)) facts-saved ∙ sym (laid-shape product w (t .laid)))) in
+      subst (λ y. Stepped n (Refused 11) y (step product w (recordOf 1 k a b c))) (sym again) (way-full p (ltb→lt (length w) (length (grownWords w k a b c)) over))
 
-  -- What is copied back.
-  pub way-room : (z : List ℕ) → z ≡ x → (g : Grown) (m : ℕ) → g ≡ Grows m → GrowMeans e (ticketOf 1 k a b c) x g → length x ≡ length w
-      → Stepped n (Facts m) z (step product w (recordOf 1 k a b c))
-  way-room z back g m f h l =
-      let q = subst (GrowMeans e (ticketOf 1 k a b c) x) f h .1 in
-      let left : x ≡ padded (length w) (grownWords w k a b c) = subst (λ v. x ≡ padded (length v) (grownWords v k a b c)) same (q .0) in
-      way-grown p z m (back ∙ left) (subst (λ v. m ≡ length (grownWords v k a b c)) same (q .1)) (ap length back ∙ l)
+  pub way-room : (g : Grown) (m : ℕ) → g ≡ Grows m → GrowMeans w (ticketOf 1 k a b c) x g → length x ≡ length w → Stepped n (Facts m) x (step product w (recordOf 1 k a b c))
+  way-room g m f h l = let q = subst (GrowMeans w (ticketOf 1 k a b c) x) f h .1 in way-grown p x m (q .0) (q .1) l

@@ -5,7 +5,7 @@
 // table known to be consistent, and `apply_ticket` on a ticket by its fields. The crate assumes nothing.
 //
 // A ticket that is refused, or that changes nothing, costs a few lookups: no copy and no pass over the table, but for the check in `apply`. An
-// insertion that puts something in works on a copy of the table, 8 KB of stack.
+// insertion that puts something in first saves the words of the table's facts, 8 KB of stack, and puts them back if the new graph does not fit.
 ghost use Rattle.rdfs.specs.Numbers.{product};
 ghost use Rattle.rdfs.specs.Register.{step, Table};
 ghost use Rattle.ticket.specs.Form.{bytesOf};

@@ -1,7 +1,9 @@
 // The inner steps: a ticket past the refusals that need no table, on a consistent table.
 ghost use mathlib.Core.Path.{_≡_};
+ghost use Prim.Native.Nat.{_≤_};
 ghost use lib.ListN.{length};
 ghost use Rattle.rdfs.specs.Numbers.{product};
+ghost use Rattle.rdfs.specs.Words.{padded};
 ghost use Rattle.rdfs.specs.Register.{step};
 ghost use Rattle.ticket.specs.Form.{recordOf, Ready, Possible};
 ghost use Rattle.ticket.specs.Answered.{Stepped};
@@ -13,6 +15,7 @@ use insertion::clashes;
 use insertion::grow;
 use table::MOST;
 use table::Word;
+use table::clear_from;
 use table::copy_words;
 
 // Refusal 9: a property that the table lacks.
@@ -30,39 +33,49 @@ pub enum Step {
     Refused(u8),
 }
 
-// Puts the asked facts in with what follows from them: into `work`, so that the table keeps its words where they do not fit.
-fn insert_through(
+// Makes a table the saved words, then zeros.
+fn put_back(table: &mut [Word], saved: &[Word])
+    requires { ⌜ length (now saved) ≤ length (now table) ⌝ }
+    ensures { λ _. ⌜ now (table .exit) ≡ padded (length (now (table .entry))) (now (saved .entry)) ⌝ }
+{
+    let n = saved.len();
+    copy_words(saved, &mut table[..n]);
+    clear_from(table, n);
+}
+
+// Puts the asked facts in with what follows from them. The words of the table's n facts are saved first and put back where the new graph
+// does not fit.
+fn insert_saving(
     table: &mut [Word],
-    work: &mut [Word],
+    saved: &mut [Word],
     n: usize,
     k: Word,
     a: Word,
     b: Word,
     c: Word,
 ) -> Step
-    requires { ⌜ Possible (now table) n k a b c × (length (now table) ≡ length (now work)) ⌝ }
+    requires { ⌜ Possible (now table) n k a b c × (length (now saved) ≡ n) ⌝ }
     ensures { λ r. ⌜ Stepped n r (now (table .exit)) (step product (now (table .entry)) (recordOf 1 k a b c)) ⌝ }
 {
-    copy_words(table, work);
-    let grown = grow(work, n, k, a, b, c);
+    copy_words(&table[..n], saved);
+    let grown = grow(table, n, k, a, b, c);
     let Grown::Facts(m) = grown else {
+        put_back(table, saved);
         return Step::Refused(FULL);
     };
-    copy_words(work, table);
     Step::Facts(m)
 }
 
-// The same, with a work copy of its own.
-fn insert_by_copy(table: &mut [Word], n: usize, k: Word, a: Word, b: Word, c: Word) -> Step
+// The same, with room of its own for the saved words.
+fn insert_possible(table: &mut [Word], n: usize, k: Word, a: Word, b: Word, c: Word) -> Step
     requires { ⌜ Possible (now table) n k a b c ⌝ }
     ensures { λ r. ⌜ Stepped n r (now (table .exit)) (step product (now (table .entry)) (recordOf 1 k a b c)) ⌝ }
 {
-    let mut work = [0; MOST];
-    let len = table.len();
-    insert_through(table, &mut work[..len], n, k, a, b, c)
+    let mut saved = [0; MOST];
+    insert_saving(table, &mut saved[..n], n, k, a, b, c)
 }
 
-// An insertion. One that is refused with 9 or 10, or whose asked facts are all there, costs a few lookups and no copy.
+// An insertion. One that is refused with 9 or 10, or whose asked facts are all there, costs a few lookups and saves nothing.
 pub fn run_insertion(table: &mut [Word], n: usize, k: Word, a: Word, b: Word, c: Word) -> Step
     requires { ⌜ Ready (now table) n 1 k a b c ⌝ }
     ensures { λ r. ⌜ Stepped n r (now (table .exit)) (step product (now (table .entry)) (recordOf 1 k a b c)) ⌝ }
@@ -79,7 +92,7 @@ pub fn run_insertion(table: &mut [Word], n: usize, k: Word, a: Word, b: Word, c:
     if clash {
         return Step::Refused(CLASH);
     }
-    insert_by_copy(table, n, k, a, b, c)
+    insert_possible(table, n, k, a, b, c)
 }
 
 // A deletion. One whose fact is gone costs a lookup and changes nothing.

@@ -43,8 +43,8 @@ returns-3 c =
     let s = u .before .before .before .before in
     way-clash (s .pre) (sym (u .if1 .left) ∙ u .before .is-unknown-property .ensures) (sym (c .if3 .taken) ∙ c .before .clashes .ensures)
 
-insert-by-copy-requires : tie.Need-insert-by-copy-requires
-insert-by-copy-requires c κs =
+insert-possible-requires : tie.Need-insert-possible-requires
+insert-possible-requires c κs =
     let u = c .before .before .before .before .before .before .before in
     let d = c .before in
     record { ready = u .before .before .before .before .pre; known = sym (u .before .is-unknown-property .ensures) ∙ u .if1 .left; free = sym (d .before .clashes .ensures) ∙ d .if3 .left }
@@ -68,6 +68,6 @@ run-insertion-spec =
     clashes-requires
     same-length-3
     returns-3
-    insert-by-copy-requires
+    insert-possible-requires
     same-length-4
     returns-4)
