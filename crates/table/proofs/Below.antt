@@ -15,6 +15,7 @@ use Rattle.rdfs.proofs.Facts.{tests-member}
 use Rattle.table.specs.Found.{below, foundAs, found}
 use Rattle.table.specs.declared.search.Found.the-variants.{At, Missing}
 use Rattle.table.proofs.Answers.{is-true, is-false}
+use Rattle.table.proofs.Halving.{Turns, turns}
 use Rattle.table.proofs.Filled.{at-in}
 
 -- The first word is below w or not.
@@ -91,6 +92,10 @@ module _ (t : List ℕ) (n w : ℕ) (h : n ≤ length t) (a : Ascending (take n 
 
   pub first-down : (k : ℕ) → k < n → w ≤ getD t k 0 → below (take n t) w ≤ k
   first-down k l e = below-down w (take n t) k a (omega (arith, firsts)) (omega (arith, getD-take n t k 0 l))
+
+  -- A test of the search.
+  pub first-turns : (k r : ℕ) → k < n → r ≡ cond (ltb (getD t k 0) w) 1 0 → Turns (below (take n t) w) k r
+  first-turns k r l e = turns (below (take n t) w) k (getD t k 0) w r (first-up k l) (first-down k l) e
 
   pub first-at : (i : ℕ) → i ≡ below (take n t) w → i < n → getD t i 0 ≡ w → At i ≡ found (take n t) w
   first-at i b l e =

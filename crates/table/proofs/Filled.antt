@@ -1,11 +1,11 @@
 -- A table that is laid out: its facts are its first words, and its first zero says how many. Assumes nothing.
 use Prim.Native.Nat.{ℕ, zero, suc, _+_, _-_, _≤_, _<_}
 use mathlib.Core.Path.{_≡_, refl, sym, ap, subst, _∙_}
-use mathlib.Core.Bool.{not}
+use mathlib.Core.Bool.{not, cond}
 use mathlib.Core.List.{List, [], _∷_, _++_}
 use native.Mathlib.Omega.{arith}
 use native.Mathlib.Decide.{decLt}
-use lib.Dec.{T, eqb}
+use lib.Dec.{T, eqb, ltb}
 use lib.ListN.{length, getD, take, replicate, length-append, List·getD-append}
 use lib.Seq.{take-append-seam, getD-append-add}
 use Rattle.rdfs.specs.Numbers.{Numbers}
@@ -14,6 +14,7 @@ use Rattle.rdfs.specs.Words.{laidOut, filled}
 use Rattle.rdfs.proofs.Tests.{differ}
 use Rattle.rdfs.proofs.Lists.{in-filter}
 use Rattle.rdfs.proofs.LaidOut.{laid-shape, laid-ascending}
+use Rattle.table.proofs.Halving.{Turns, turns}
 
 pub at-in : (l : List ℕ) (i : ℕ) → i < length l → getD l i 0 ∈ l
 at-in [] i h = absurd (omega arith)
@@ -52,6 +53,10 @@ module _ (N : Numbers) (t : List ℕ) (h : T (laidOut N 1 t)) where
 
   pub filled-more : (k : ℕ) → (getD t k 0 ≡ 0 → ⊥) → k < length (filled t)
   filled-more k e = elim (decLt k (length (filled t))) [ yes l ↦ l | no n ↦ absurd (e (filled-none k (omega (arith, n)))) ]
+
+  -- A test of the search for the first zero.
+  pub filled-turns : (k r : ℕ) → r ≡ cond (ltb 0 (getD t k 0)) 1 0 → Turns (length (filled t)) k r
+  filled-turns k r e = turns (length (filled t)) k 0 (getD t k 0) r (λ l. filled-more k (omega arith)) (λ l. filled-end k (omega arith)) e
 
   -- The first words, as many as there are facts, are the facts, and they ascend.
   module _ (n : ℕ) (e : n ≡ length (filled t)) where

@@ -9,6 +9,7 @@ ghost use Rattle.table.specs.Layout.{zeros, Rising};
 ghost use Rattle.table.specs.Calls.{lookupAnswer};
 use crate::words::MOST;
 use crate::words::Word;
+use crate::words::is_below;
 use crate::words::is_fact;
 
 // Refusal 1: a table of no words or above the most.
@@ -87,20 +88,20 @@ pub fn layout_refusal(t: &[Word]) -> u8
     BAD_LAYOUT
 }
 
-// How many facts a table has: the place of its first zero, by halving.
+// How many facts a table has: the place of its first zero, by halving. It is from lo to lo + size.
 pub fn count_facts(t: &[Word]) -> usize
     requires { ⌜ T (laidOut product 1 (now t)) ⌝ }
     ensures { λ r. ⌜ r ≡ length (filled (now (t .entry))) ⌝ }
 {
-    let mut lo = 0;
-    let mut hi = t.len();
-    while lo < hi {
-        let mid = lo + (hi - lo) / 2;
-        if t[mid] == 0 {
-            hi = mid;
-        } else {
-            lo = mid + 1;
-        }
+    if t.len() == 0 {
+        return 0;
     }
-    lo
+    let mut lo = 0;
+    let mut size = t.len();
+    while 1 < size {
+        let half = size / 2;
+        lo += half * is_below(0, t[lo + half]);
+        size -= half;
+    }
+    lo + is_below(0, t[lo])
 }

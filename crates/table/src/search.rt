@@ -8,6 +8,7 @@ ghost use Rattle.table.specs.Parts.{Shaped};
 ghost use Rattle.table.specs.Found.{below, found};
 ghost use Rattle.table.specs.Counted.{Counted, Id, factsOf};
 use crate::words::Word;
+use crate::words::is_below;
 use crate::words::word_of;
 
 pub enum Found {
@@ -17,22 +18,22 @@ pub enum Found {
     Missing(usize),
 }
 
-// How many of the first n words are below w, by halving.
+// How many of the first n words are below w, by halving: it is from lo to lo + size.
 pub fn count_below(t: &[Word], n: usize, w: Word) -> usize
     requires { ⌜ (n ≤ length (now t)) × Ascending (take n (now t)) ⌝ }
     ensures { λ r. ⌜ r ≡ below (take n (now (t .entry))) w ⌝ }
 {
-    let mut lo = 0;
-    let mut hi = n;
-    while lo < hi {
-        let mid = lo + (hi - lo) / 2;
-        if t[mid] < w {
-            lo = mid + 1;
-        } else {
-            hi = mid;
-        }
+    if n == 0 {
+        return 0;
     }
-    lo
+    let mut lo = 0;
+    let mut size = n;
+    while 1 < size {
+        let half = size / 2;
+        lo += half * is_below(t[lo + half], w);
+        size -= half;
+    }
+    lo + is_below(t[lo], w)
 }
 
 // Where w stands among the first n words, or where it would go.

@@ -1,6 +1,8 @@
 // The word of a fact: its numbers, taking it apart, making one, which words are facts.
 ghost use mathlib.Core.Path.{_≡_};
+ghost use mathlib.Core.Bool.{cond};
 ghost use Prim.Native.Nat.{ℕ, _<_};
+ghost use lib.Dec.{ltb};
 ghost use Rattle.rdfs.specs.Numbers.{Numbers, product, arity};
 ghost use Rattle.rdfs.specs.Words.{isFact};
 ghost use Rattle.table.specs.Answers.{Decides};
@@ -14,6 +16,8 @@ pub const TOP: Word = 255;
 pub const BASE: Word = 256;
 // The most words of a table.
 pub const MOST: usize = 2048;
+// How many words there are.
+pub const WORDS: usize = 4294967296;
 
 // The id of rdfs:Resource.
 pub const RESOURCE: Word = 0;
@@ -76,6 +80,13 @@ pub fn kind_numbers() -> [Word; 10]
         MEMBER,
         VALUE,
     ]
+}
+
+// 1 if x is below w, else 0. There is no branch: which way a search turns cannot be predicted.
+pub fn is_below(x: Word, w: Word) -> usize
+    ensures { λ r. ⌜ r ≡ cond (ltb x w) 1 0 ⌝ }
+{
+    1 - (x as usize + WORDS - w as usize) / WORDS
 }
 
 // How many ids a fact of kind k has; 0 if k is no kind.

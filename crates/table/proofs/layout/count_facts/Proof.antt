@@ -1,60 +1,91 @@
--- `layout::count_facts`. The loop's invariant: the number of facts is between lo and hi. The measure is the distance of the two. Assumes nothing.
-use Prim.Native.Nat.{_-_, _≤_}
+-- `layout::count_facts`. The loop's invariant: the number of facts is between lo and lo + size. The measure is size. Assumes nothing.
+use mathlib.Core.Path.{refl}
 use native.Mathlib.Omega.{arith}
 use denote.Ref.{now}
 use lib.ListN.{length}
+use borrow.Author.Needs.{needs}
 use Rattle.rdfs.specs.Numbers.{product}
 use Rattle.rdfs.specs.Words.{filled}
-use Rattle.table.proofs.Filled.{filled-within, filled-end, filled-more}
+use Rattle.table.proofs.Halving.{Between, moved-within, between-half, between-last}
+use Rattle.table.proofs.Filled.{filled-within, filled-turns}
 use Rattle.table.proofs.layout.count_facts.Statement.{statement}
 use Rattle.table.proofs.layout.count_facts.Tie as tie
 
 abbrev Inv-loop : tie.InvT-loop
-Inv-loop t lo₀ hi₀ lo hi = (lo ≤ length (filled t)) × (length (filled t) ≤ hi) × (hi ≤ length t)
+Inv-loop t lo₀ size₀ lo size = Between (length t) (length (filled t)) lo size
 
 abbrev μ-loop : tie.MeasureT-loop
-μ-loop t lo₀ hi₀ lo hi = hi - lo
+μ-loop t lo₀ size₀ lo size = size
+
+returns : tie.Need-returns Inv-loop μ-loop
+returns c = omega (arith, filled-within product (now (c .before .before .args .t)) (c .before .before .pre))
 
 loop-holds : tie.Need-loop-holds Inv-loop μ-loop
 loop-holds c =
-    let within = filled-within product (now (c .args .t)) (c .pre) in
-    omega arith
+    let within = filled-within product (now (c .before .before .args .t)) (c .before .before .pre) in
+    record { some = omega arith; within = omega arith; low = omega arith; high = omega arith }
 
-sub-mid : tie.Need-sub-mid Inv-loop μ-loop
-sub-mid c = omega arith
+add-is-below : tie.Need-add-is-below Inv-loop μ-loop
+add-is-below c = omega arith
 
-add-mid : tie.Need-add-mid Inv-loop μ-loop
-add-mid c = omega arith
+mul-is-below : tie.Need-mul-is-below Inv-loop μ-loop
+mul-is-below c = omega arith
 
-mul-if1 : tie.Need-mul-if1 Inv-loop μ-loop
-mul-if1 c = omega arith
+shared-slice-read-is-below : tie.Need-shared-slice-read-is-below Inv-loop μ-loop
+shared-slice-read-is-below c = omega arith
 
-shared-slice-read-if1 : tie.Need-shared-slice-read-if1 Inv-loop μ-loop
-shared-slice-read-if1 c = omega arith
+is-below-requires : tie.Need-is-below-requires Inv-loop μ-loop
+is-below-requires c κs = search needs
+
+mul-lo : tie.Need-mul-lo Inv-loop μ-loop
+mul-lo c =
+    let loop = c .before .before .before .loop in
+    let start = c .before .before .before .before .before .before in
+    let turn = filled-turns product (now (start .args .t)) (start .pre) _ _ (c .is-below .ensures) in
+    omega (arith, moved-within (loop .inv) _ _ turn)
+
+add-lo : tie.Need-add-lo Inv-loop μ-loop
+add-lo c =
+    let loop = c .before .before .before .loop in
+    let start = c .before .before .before .before .before .before in
+    let turn = filled-turns product (now (start .args .t)) (start .pre) _ _ (c .is-below .ensures) in
+    omega (arith, moved-within (loop .inv) _ _ turn)
+
+sub-size : tie.Need-sub-size Inv-loop μ-loop
+sub-size c = omega arith
 
 loop-less : tie.Need-loop-less Inv-loop μ-loop
 loop-less c = omega arith
 
 loop-again : tie.Need-loop-again Inv-loop μ-loop
 loop-again c =
-    let s = c .before .before .before .before in
-    let down = filled-end product (now (s .args .t)) (s .pre) _ (c .if1 .taken) in
-    omega arith
+    let loop = c .before .before .before .loop in
+    let start = c .before .before .before .before .before .before in
+    let turn = filled-turns product (now (start .args .t)) (start .pre) _ _ (c .is-below .ensures) in
+    between-half (loop .inv) _ _ refl (c .before .before .loop-test .taken) turn
 
-add-lo : tie.Need-add-lo Inv-loop μ-loop
-add-lo c = omega arith
+mul-is-below-2 : tie.Need-mul-is-below-2 Inv-loop μ-loop
+mul-is-below-2 c = omega arith
 
-loop-less-2 : tie.Need-loop-less-2 Inv-loop μ-loop
-loop-less-2 c = omega arith
+shared-slice-read-is-below-2 : tie.Need-shared-slice-read-is-below-2 Inv-loop μ-loop
+shared-slice-read-is-below-2 c = omega arith
 
-loop-again-2 : tie.Need-loop-again-2 Inv-loop μ-loop
-loop-again-2 c =
-    let s = c .before .before .before .before in
-    let up = filled-more product (now (s .args .t)) (s .pre) _ (c .if1 .left) in
-    omega arith
+is-below-requires-2 : tie.Need-is-below-requires-2 Inv-loop μ-loop
+is-below-requires-2 c κs = search needs
 
-returns : tie.Need-returns Inv-loop μ-loop
-returns c = omega arith
+add-result : tie.Need-add-result Inv-loop μ-loop
+add-result c =
+    let loop = c .before .before .before .loop in
+    let start = c .before .before .before .before .before .before in
+    let turn = filled-turns product (now (start .args .t)) (start .pre) _ _ (c .is-below2 .ensures) in
+    omega (arith, between-last (loop .inv) _ (c .before .before .loop-test .left) turn, filled-within product (now (c .before .before .before .before .before .before .args .t)) (c .before .before .before .before .before .before .pre))
+
+returns-2 : tie.Need-returns-2 Inv-loop μ-loop
+returns-2 c =
+    let loop = c .before .before .before .loop in
+    let start = c .before .before .before .before .before .before in
+    let turn = filled-turns product (now (start .args .t)) (start .pre) _ _ (c .is-below2 .ensures) in
+    between-last (loop .inv) _ (c .before .before .loop-test .left) turn
 
 pub count-facts-spec : {M : Type 1} → statement M
 count-facts-spec =
@@ -62,14 +93,19 @@ count-facts-spec =
     (tie.spec
     Inv-loop
     μ-loop
+    returns
     loop-holds
-    sub-mid
-    add-mid
-    mul-if1
-    shared-slice-read-if1
+    add-is-below
+    mul-is-below
+    shared-slice-read-is-below
+    is-below-requires
+    mul-lo
+    add-lo
+    sub-size
     loop-less
     loop-again
-    add-lo
-    loop-less-2
-    loop-again-2
-    returns)
+    mul-is-below-2
+    shared-slice-read-is-below-2
+    is-below-requires-2
+    add-result
+    returns-2)
