@@ -1,0 +1,91 @@
+//! Lists of tickets for program one.
+
+use crate::plant::{Bytes, Plant};
+use crate::rivals::fact::*;
+use crate::sequence::Sequence;
+
+/// Tickets drawn from all bytes that come near: operation 1 or 2, kinds 1 to 10, ids 0 to 31. Most are refused.
+pub fn mostly_bad(count: usize) -> Vec<u8> {
+    let mut random = Sequence::of_seed(1);
+    let mut draw = || [2, 10, 32, 32, 32].map(|end| random.below(end) as u8);
+    let tickets = (0..count).map(|_| draw()).map(|[operation, kind, a, b, c]| [operation + 1, kind + 1, a, b, c]);
+    tickets.collect::<Vec<Bytes>>().concat()
+}
+
+/// Plants that fill a table of 2,048 words, each taken down again by deletions, the last ticket first. Every second one is
+/// drawn in any order that puts the properties first.
+pub fn plants(count: usize) -> Vec<u8> {
+    let mut list = Vec::new();
+    for seed in 1.. {
+        let mut tickets = Plant::draw(seed, MOST_WORDS).tickets;
+        if seed % 2 == 0 {
+            Sequence::of_seed(seed).shuffle(&mut tickets);
+            tickets.sort_by_key(|ticket| ticket[1] != PROPERTY);
+        }
+        list.extend(tickets.concat());
+        list.extend(taken_down(&tickets).concat());
+        if list.len() >= 5 * count {
+            return list;
+        }
+    }
+    list
+}
+
+/// Deletes what each ticket asked, the last first, then every id that is left.
+fn taken_down(tickets: &[Bytes]) -> Vec<Bytes> {
+    let asked = tickets.iter().rev().filter(|ticket| ticket[1] > LITERAL);
+    let mut deletions: Vec<Bytes> = asked.map(|[_, kind, a, b, c]| [2, *kind, *a, *b, *c]).collect();
+    for kind in [INDIVIDUAL, LITERAL, PROPERTY, CLASS] {
+        let mut ids: Vec<u8> = tickets.iter().flat_map(|ticket| ids_of(kind, ticket)).collect();
+        ids.sort();
+        ids.dedup();
+        deletions.extend(ids.iter().map(|id| [2, kind, *id, 0, 0]));
+    }
+    deletions
+}
+
+/// The ids of a sort that a plant's ticket names, as far as its form tells.
+fn ids_of(sort: u8, &[_, kind, a, b, _]: &Bytes) -> Vec<u8> {
+    match (sort, kind) {
+        (CLASS, CLASS) | (PROPERTY, PROPERTY) | (CLASS, SUBCLASS) | (INDIVIDUAL, MEMBER) => vec![a],
+        (LITERAL, VALUE) => vec![b],
+        _ => Vec::new(),
+    }
+}
+
+/// Insertions and deletions among 31 ids, one ticket in fifty bad: the graph stays small and tightly linked.
+pub fn dense(count: usize) -> Vec<u8> {
+    let mut random = Sequence::of_seed(1);
+    let mut list = Vec::new();
+    for _ in 0..count {
+        let mut ticket = dense_ticket(&mut random);
+        if random.is_one_in(50) {
+            ticket[random.below(5)] = random.below(12) as u8;
+        }
+        list.extend(ticket);
+    }
+    list
+}
+
+fn dense_ticket(random: &mut Sequence) -> Bytes {
+    let operation = if random.is_one_in(3) { 2 } else { 1 };
+    let kind = random.pick(&[1, 2, 3, 4, 5, 5, 5, 6, 6, 9, 9, 9, 10, 10, 10, 10]);
+    let mut id = |first: u8, last: u8| first + random.below(usize::from(last - first) + 1) as u8;
+    let [a, b, c] = match kind {
+        CLASS => [id(2, 11), 0, 0],
+        PROPERTY if operation == 2 => [id(12, 16), 0, 0],
+        PROPERTY => [id(12, 16), id(2, 11), id(2, 11)],
+        INDIVIDUAL => [id(17, 26), 0, 0],
+        LITERAL => [id(27, 31), 0, 0],
+        SUBCLASS => ascending([id(2, 11), id(2, 11), 0]),
+        SUBPROPERTY => ascending([id(12, 16), id(12, 16), 0]),
+        MEMBER => [id(17, 26), id(2, 11), 0],
+        _ => [id(17, 26), id(17, 31), id(12, 16)],
+    };
+    [operation, kind, a, b, c]
+}
+
+/// The lower id under the higher, so that links rarely close a circle.
+fn ascending([a, b, c]: [u8; 3]) -> [u8; 3] {
+    [a.min(b), a.max(b), c]
+}

@@ -1,0 +1,136 @@
+//! The table as a sorted `Vec` of its words, with binary searches.
+
+mod check;
+mod deletion;
+mod image;
+mod insertion;
+
+use super::clash::{clashes, uses_unknown, Lookups};
+use super::fact::*;
+use super::form::ticket_of;
+use super::{Answer, Rival};
+
+/// The words of a consistent table, ascending, without the zeros after them.
+#[derive(Clone)]
+pub struct Sorted {
+    words: Vec<u32>,
+}
+
+/// The run of the words from `first` to `last` in ascending words.
+fn run(words: &[u32], first: u32, last: u32) -> &[u32] {
+    let start = words.partition_point(|word| *word < first);
+    let rest = &words[start..];
+    &rest[..rest.partition_point(|word| *word <= last)]
+}
+
+/// The facts of a kind.
+fn of_kind(words: &[u32], kind: u8) -> &[u32] {
+    run(words, word(kind, 0, 0, 0), word(kind, 255, 255, 255))
+}
+
+/// The facts of a kind whose first id is a.
+fn of_first(words: &[u32], kind: u8, a: u8) -> &[u32] {
+    run(words, word(kind, a, 0, 0), word(kind, a, 255, 255))
+}
+
+fn has(words: &[u32], word: u32) -> bool {
+    words.binary_search(&word).is_ok()
+}
+
+fn a_of(word: u32) -> u8 {
+    word.to_be_bytes()[1]
+}
+
+fn b_of(word: u32) -> u8 {
+    word.to_be_bytes()[2]
+}
+
+fn c_of(word: u32) -> u8 {
+    word.to_be_bytes()[3]
+}
+
+impl Lookups for Sorted {
+    fn is(&self, sort: u8, x: u8) -> bool {
+        has(&self.words, word(sort, x, 0, 0))
+    }
+
+    fn is_subclass(&self, x: u8, y: u8) -> bool {
+        has(&self.words, word(SUBCLASS, x, y, 0))
+    }
+
+    fn is_subproperty(&self, x: u8, y: u8) -> bool {
+        has(&self.words, word(SUBPROPERTY, x, y, 0))
+    }
+
+    fn domain_of(&self, p: u8) -> u8 {
+        self.end_of(DOMAIN, p)
+    }
+
+    fn range_of(&self, p: u8) -> u8 {
+        self.end_of(RANGE, p)
+    }
+}
+
+impl Sorted {
+    /// The domain or the range of a property, of which a consistent table has one.
+    fn end_of(&self, kind: u8, p: u8) -> u8 {
+        let place = self.words.partition_point(|other| *other < word(kind, p, 0, 0));
+        b_of(self.words[place])
+    }
+
+    /// The words of the table's facts.
+    pub fn words(&self) -> &[u32] {
+        &self.words
+    }
+}
+
+impl Rival for Sorted {
+    fn fresh() -> Sorted {
+        let mut words = Vec::with_capacity(MOST_WORDS + 1);
+        words.push(word(CLASS, RESOURCE, 0, 0));
+        Sorted { words }
+    }
+
+    fn read(image: &[u8]) -> Result<Sorted, u8> {
+        let words = image::words_of(image).ok_or(12)?;
+        if words.len() > MOST_WORDS {
+            return Err(11);
+        }
+        if !check::is_consistent(&words) {
+            return Err(3);
+        }
+        Ok(Sorted { words })
+    }
+
+    fn check(table: &[u32]) -> u8 {
+        check::check(table)
+    }
+
+    fn apply(&mut self, ticket: &[u8]) -> Answer {
+        let asked = match ticket_of(ticket) {
+            Ok(asked) => asked,
+            Err(refusal) => return Answer::refused(refusal),
+        };
+        if !asked.inserts {
+            return Answer::accepted(0, self.delete(&asked));
+        }
+        if uses_unknown(self, &asked) {
+            return Answer::refused(9);
+        }
+        if clashes(self, &asked) {
+            return Answer::refused(10);
+        }
+        match self.insert(&asked) {
+            Some(added) => Answer::accepted(added, 0),
+            None => Answer::refused(11),
+        }
+    }
+
+    fn write(&self, output: &mut [u8]) -> Result<usize, u8> {
+        image::write(&self.words, output).ok_or(13)
+    }
+
+    fn count_facts(&self) -> usize {
+        self.words.len()
+    }
+}
