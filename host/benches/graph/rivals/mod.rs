@@ -6,7 +6,7 @@
 // The tests and the benchmark each use their own share of this module.
 #![allow(dead_code)]
 
-//pub mod bit_rows;
+pub mod bit_rows;
 pub mod clash;
 pub mod contents;
 pub mod fact;

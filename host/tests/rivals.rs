@@ -1,0 +1,159 @@
+//! The two implementations that the benchmark measures, beside the independent one: the same answers, the same bytes.
+
+#[path = "generator/mod.rs"]
+mod generator;
+#[path = "independent/mod.rs"]
+mod independent;
+#[path = "../benches/graph/rivals/mod.rs"]
+mod rivals;
+
+use generator::damage::{damaged, each_contents_byte_changed};
+use generator::tickets::{bad_ticket, list, short_ticket, ticket, Ids, ALL_IDS, FEW, MANY, PLENTY};
+use generator::{graphs, rounds, Random};
+use independent::graph::Graph;
+use independent::{host, image, programs, table};
+use rivals::bit_rows::BitRows;
+use rivals::contents::LONGEST_IMAGE;
+use rivals::sorted::Sorted;
+use rivals::{host_call, program, Rival};
+
+/// The number that all three give, and the output that all three leave.
+fn same_call(image: &[u8], ticket: &[u8], output_length: usize) -> (u64, Vec<u8>) {
+    let mut expected = vec![0x5a; output_length];
+    let number = host::host_call(image, ticket, &mut expected);
+    for call in [host_call::<Sorted>, host_call::<BitRows>] {
+        let mut output = vec![0x5a; output_length];
+        assert_eq!(call(image, ticket, &mut output), number, "{ticket:02x?} on {image:02x?}");
+        assert_eq!(output, expected, "{ticket:02x?} on {image:02x?}");
+    }
+    (number, expected)
+}
+
+fn same_check(words: &[u32]) -> u8 {
+    let expected = table::check(words);
+    assert_eq!(Sorted::check(words), expected, "{words:08x?}");
+    assert_eq!(BitRows::check(words), expected, "{words:08x?}");
+    expected
+}
+
+fn same_program(list: &[u8]) {
+    let expected = programs::print_answers(list);
+    assert_eq!(printed::<Sorted>(list), expected, "{list:02x?}");
+    assert_eq!(printed::<BitRows>(list), expected, "{list:02x?}");
+}
+
+fn printed<R: Rival>(list: &[u8]) -> String {
+    let mut printed = Vec::new();
+    program::run::<R>(list, &mut printed).expect("a Vec takes all bytes");
+    String::from_utf8(printed).expect("program one prints text")
+}
+
+fn image(graph: &Graph) -> Vec<u8> {
+    image::image_of(graph).expect("the graph has an image")
+}
+
+/// The graph's words in a table of `length`.
+fn words(graph: &Graph, length: usize) -> Vec<u32> {
+    let mut words: Vec<u32> = graph.facts().map(|fact| fact.word()).collect();
+    words.resize(length.max(words.len()), 0);
+    words
+}
+
+/// A ticket of any sort: most are good, some are bad, some have another length.
+fn any_ticket(random: &mut Random, ids: &Ids) -> Vec<u8> {
+    match random.below(12) {
+        0 => bad_ticket(random, ids).to_vec(),
+        1 => short_ticket(random),
+        _ => ticket(random, ids).to_vec(),
+    }
+}
+
+#[test]
+fn host_calls_on_growing_graphs() {
+    let mut random = Random::for_test("rivals_on_growing_graphs");
+    for round in 0..rounds(100) {
+        let mut image = image(&table::fresh_graph());
+        for _ in 0..50 {
+            let ticket = any_ticket(&mut random, &ALL_IDS[round % 4]);
+            let around = random.below(image.len() + 8);
+            let length = if random.is_one_in(6) { around } else { LONGEST_IMAGE };
+            let (number, output) = same_call(&image, &ticket, length);
+            if number as u16 == 0 {
+                image = output[..(number >> 48) as usize].to_vec();
+            }
+        }
+    }
+}
+
+#[test]
+fn host_calls_on_damaged_images() {
+    let mut random = Random::for_test("rivals_on_damaged_images");
+    for round in 0..rounds(200) {
+        let ids = &ALL_IDS[round % 4];
+        let whole = image(&graphs::grown(&mut random, ids, 30, 2048));
+        for _ in 0..6 {
+            same_call(&damaged(&mut random, &whole), &any_ticket(&mut random, ids), LONGEST_IMAGE);
+        }
+        let marked = image(&graphs::marked(&mut random, &FEW));
+        same_call(&marked, &any_ticket(&mut random, &FEW), LONGEST_IMAGE);
+    }
+    let whole = image(&graphs::grown(&mut random, &MANY, 40, 2048));
+    for changed in each_contents_byte_changed(&whole) {
+        same_call(&changed, &[1, 3, 77, 0, 0], LONGEST_IMAGE);
+    }
+    for more in [0, 1] {
+        same_call(&image(&graphs::overlong())[more..], &[1, 1, 2, 0, 0], LONGEST_IMAGE);
+    }
+}
+
+#[test]
+fn host_calls_on_full_graphs() {
+    let mut random = Random::for_test("rivals_on_full_graphs");
+    for facts in [2043, 2047, 2048, 2049] {
+        let whole = image(&graphs::filled(&mut random, facts));
+        for _ in 0..rounds(6) {
+            same_call(&whole, &ticket(&mut random, &PLENTY), LONGEST_IMAGE);
+        }
+    }
+}
+
+/// Graphs that break a rule or two, or none: both outcomes are met often.
+#[test]
+fn checks_of_disturbed_tables() {
+    let mut random = Random::for_test("rivals_check");
+    let mut met = [0; 4];
+    for round in 0..rounds(3000) {
+        let ids = [FEW, MANY][round % 2];
+        let mut table = words(&graphs::disturbed(&mut random, &ids, 60), 60);
+        if random.is_one_in(10) {
+            let (one, other) = (random.below(60), random.below(60));
+            table.swap(one, other);
+        }
+        met[usize::from(same_check(&table))] += 1;
+    }
+    assert!(met[0] > 500 && met[2] > 50 && met[3] > 500, "{met:?}");
+    assert_eq!([same_check(&[]), same_check(&[0; 2049]), same_check(&[0; 2048])], [1, 1, 3]);
+}
+
+#[test]
+fn program_one_on_random_lists() {
+    let mut random = Random::for_test("rivals_on_random_lists");
+    for round in 0..rounds(120) {
+        same_program(&list(&mut random, &ALL_IDS[round % 4], 80));
+    }
+}
+
+/// Members of a deep tree until no more fits, then tickets of all sorts.
+#[test]
+fn program_one_on_full_tables() {
+    let mut random = Random::for_test("rivals_on_full_tables");
+    for _ in 0..rounds(2) {
+        let mut tickets: Vec<[u8; 5]> = (2..16).map(|c| [1, 5, c, c + 1, 0]).collect();
+        tickets.extend([[1, 2, 50, 16, 16], [1, 2, 51, 2, 1]]);
+        tickets.extend((80..=140).map(|x| [1, 9, x, 2, 0]));
+        random.shuffle(&mut tickets);
+        tickets.extend((141..=230).map(|x| [1, 9, x, 2, 0]));
+        let more = list(&mut random, &Ids { deletions: 12, ..PLENTY }, 60);
+        same_program(&[tickets.concat(), more].concat());
+    }
+}
