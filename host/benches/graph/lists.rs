@@ -15,26 +15,39 @@ pub fn mostly_bad(count: usize) -> Vec<u8> {
 /// Plants that fill a table of 2,048 words, each taken down again by deletions, the last ticket first. Every second one is
 /// drawn in any order that puts the properties first.
 pub fn plants(count: usize) -> Vec<u8> {
+    plants_with(count, |tickets| [taken_down(tickets), cleared(tickets)].concat())
+}
+
+/// The same plants, each cleared by the deletion of every id.
+pub fn filled_plants(count: usize) -> Vec<u8> {
+    plants_with(count, cleared)
+}
+
+fn plants_with(count: usize, deletions: fn(&[Bytes]) -> Vec<Bytes>) -> Vec<u8> {
     let mut list = Vec::new();
-    for seed in 1.. {
+    let mut seed = 0;
+    while list.len() < 5 * count {
+        seed += 1;
         let mut tickets = Plant::draw(seed, MOST_WORDS).tickets;
         if seed % 2 == 0 {
             Sequence::of_seed(seed).shuffle(&mut tickets);
             tickets.sort_by_key(|ticket| ticket[1] != PROPERTY);
         }
         list.extend(tickets.concat());
-        list.extend(taken_down(&tickets).concat());
-        if list.len() >= 5 * count {
-            return list;
-        }
+        list.extend(deletions(&tickets).concat());
     }
     list
 }
 
-/// Deletes what each ticket asked, the last first, then every id that is left.
+/// Deletes what each ticket asked, the last first.
 fn taken_down(tickets: &[Bytes]) -> Vec<Bytes> {
     let asked = tickets.iter().rev().filter(|ticket| ticket[1] > LITERAL);
-    let mut deletions: Vec<Bytes> = asked.map(|[_, kind, a, b, c]| [2, *kind, *a, *b, *c]).collect();
+    asked.map(|[_, kind, a, b, c]| [2, *kind, *a, *b, *c]).collect()
+}
+
+/// Deletes every id.
+fn cleared(tickets: &[Bytes]) -> Vec<Bytes> {
+    let mut deletions = Vec::new();
     for kind in [INDIVIDUAL, LITERAL, PROPERTY, CLASS] {
         let mut ids: Vec<u8> = tickets.iter().flat_map(|ticket| ids_of(kind, ticket)).collect();
         ids.sort();
@@ -47,7 +60,7 @@ fn taken_down(tickets: &[Bytes]) -> Vec<Bytes> {
 /// The ids of a sort that a plant's ticket names, as far as its form tells.
 fn ids_of(sort: u8, &[_, kind, a, b, _]: &Bytes) -> Vec<u8> {
     match (sort, kind) {
-        (CLASS, CLASS) | (PROPERTY, PROPERTY) | (CLASS, SUBCLASS) | (INDIVIDUAL, MEMBER) => vec![a],
+        (CLASS, CLASS | SUBCLASS) | (PROPERTY, PROPERTY) | (INDIVIDUAL, MEMBER) | (LITERAL, LITERAL) => vec![a],
         (LITERAL, VALUE) => vec![b],
         _ => Vec::new(),
     }

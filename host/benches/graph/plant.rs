@@ -11,14 +11,21 @@ pub type Bytes = [u8; 5];
 const FIRST_CLASS: u8 = 2;
 const FIRST_PROPERTY: u8 = 60;
 const FIRST_LITERAL: u8 = 80;
-const FIRST_INDIVIDUAL: u8 = 112;
+pub const FIRST_INDIVIDUAL: u8 = 112;
+const LAST_INDIVIDUAL: u8 = 254;
+
+/// An individual that no plant has.
+pub const NEW_INDIVIDUAL: u8 = 255;
+
+/// A class that stands under one of the roots in every plant.
+pub const SECOND_CLASS: u8 = FIRST_CLASS + ROOTS;
 
 /// The top of the tree: device, port, container.
 const ROOTS: u8 = 3;
 const DEEPEST: usize = 5;
 
-/// Values are drawn until so many in a row did not fit.
-const TRIES: usize = 2000;
+/// After so many values in a row that did not fit, something else is drawn.
+const TRIES: usize = 60;
 
 /// A plant while its tickets are drawn.
 pub struct Plant {
@@ -29,8 +36,8 @@ pub struct Plant {
     pub tickets: Vec<Bytes>,
     /// The class over each class, 0 for the roots, and how deep it is.
     parents: Vec<(u8, usize)>,
-    /// Domain and range of each property, and how deep it is.
-    properties: Vec<(u8, u8, usize)>,
+    /// Domain and range of each property.
+    properties: Vec<(u8, u8)>,
 }
 
 impl Plant {
@@ -90,16 +97,16 @@ impl Plant {
             let property = FIRST_PROPERTY + place;
             if place > 1 && self.random.is_one_in(2) {
                 let over = self.random.below(usize::from(place));
-                let (domain, range, depth) = self.properties[over];
+                let (domain, range) = self.properties[over];
                 let (domain, range) = (self.class_under(domain), self.class_under(range));
-                self.properties.push((domain, range, depth + 1));
+                self.properties.push((domain, range));
                 self.offer([1, PROPERTY, property, domain, range]);
                 self.offer([1, SUBPROPERTY, property, FIRST_PROPERTY + over as u8, 0]);
             } else {
                 let upper = self.parents.len().min(8);
                 let domain = FIRST_CLASS + self.random.below(upper) as u8;
                 let range = if self.random.is_one_in(4) { MARK } else { FIRST_CLASS + self.random.below(upper) as u8 };
-                self.properties.push((domain, range, 1));
+                self.properties.push((domain, range));
                 self.offer([1, PROPERTY, property, domain, range]);
             }
         }
@@ -123,26 +130,42 @@ impl Plant {
         }
     }
 
-    /// Values between members of the properties' ends, until the graph is full.
+    /// Values between members of the properties' ends, and where these run out one more individual, until the graph is
+    /// full or there are no more ids.
     fn draw_values(&mut self, literals: usize) {
-        let mut tries = 0;
-        while self.table.count_facts() < self.most && tries < TRIES {
-            let place = self.random.below(self.properties.len());
-            let (domain, range, _) = self.properties[place];
-            let subjects = self.members(domain);
-            let values = match range {
-                MARK => (0..literals as u8).map(|literal| FIRST_LITERAL + literal).collect(),
-                class => self.members(class),
-            };
-            tries += 1;
-            if subjects.is_empty() || values.is_empty() {
-                continue;
-            }
-            let (x, y) = (self.random.pick(&subjects), self.random.pick(&values));
-            if self.offer([1, VALUE, x, y, FIRST_PROPERTY + place as u8]) {
-                tries = 0;
+        while self.table.count_facts() < self.most {
+            let found = (0..TRIES).any(|_| self.draw_value(literals));
+            if !found && !self.draw_more() {
+                return;
             }
         }
+    }
+
+    fn draw_value(&mut self, literals: usize) -> bool {
+        let place = self.random.below(self.properties.len());
+        let (domain, range) = self.properties[place];
+        let subjects = self.members(domain);
+        let values = match range {
+            MARK => (FIRST_LITERAL..).take(literals).collect(),
+            class => self.members(class),
+        };
+        if subjects.is_empty() || values.is_empty() {
+            return false;
+        }
+        let (x, y) = (self.random.pick(&subjects), self.random.pick(&values));
+        self.offer([1, VALUE, x, y, FIRST_PROPERTY + place as u8])
+    }
+
+    /// One more individual in a class, or where it does not fit a literal.
+    fn draw_more(&mut self) -> bool {
+        let class = FIRST_CLASS + self.random.below(self.parents.len()) as u8;
+        let individuals = FIRST_INDIVIDUAL..=LAST_INDIVIDUAL;
+        let literals = FIRST_LITERAL..FIRST_INDIVIDUAL;
+        let unused = |sort: u8, x: &u8| !self.table.words().contains(&word(sort, *x, 0, 0));
+        let individual = individuals.clone().find(|x| unused(INDIVIDUAL, x));
+        let literal = literals.clone().find(|x| unused(LITERAL, x));
+        individual.is_some_and(|x| self.offer([1, MEMBER, x, class, 0]))
+            || literal.is_some_and(|x| self.offer([1, LITERAL, x, 0, 0]))
     }
 
     /// The individuals in a class.

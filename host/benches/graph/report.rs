@@ -1,0 +1,148 @@
+//! The report: what is measured, in tables.
+
+use crate::candidates::NAMES;
+use crate::growth::{picture, Curve};
+use crate::host_calls;
+use crate::lists;
+use crate::programs;
+use crate::settings::Settings;
+use crate::sqlite;
+use crate::subjects::{Subject, SIZES};
+use crate::tables::{laid_out, shown, table, Line, Unit};
+use std::fs;
+
+/// The report and the picture.
+pub struct Report {
+    pub text: String,
+    pub picture: String,
+}
+
+/// Measures everything once.
+pub fn measure(settings: &Settings) -> Report {
+    let mut text = head(settings);
+    let paper = host_calls::measure(settings, &Subject::paper());
+    let plants: Vec<host_calls::Measured> =
+        SIZES.iter().map(|facts| host_calls::measure(settings, &Subject::plant(*facts))).collect();
+    text += &host_calls_part(&paper, &plants);
+    let means: Vec<Vec<f64>> = plants.iter().map(|measured| measured.mean.clone()).collect();
+    let sizes: Vec<usize> = plants.iter().map(|measured| measured.facts).collect();
+    let curves = Curve::each(&sizes, &means);
+    text += &growth_part(&curves, &plants);
+    text += &programs_part(settings);
+    text += &sqlite_part(settings);
+    Report { text, picture: picture("One host call, mean of five tickets", &curves) }
+}
+
+fn head(settings: &Settings) -> String {
+    let cpu = fs::read_to_string("/proc/cpuinfo").unwrap_or_default();
+    let model = cpu.lines().find_map(|line| line.strip_prefix("model name")).unwrap_or(": unknown");
+    let model = model.trim_start_matches([' ', '\t', ':']);
+    format!(
+        "# Benchmark\n\nWritten by `cargo bench --offline -- --write` in `host/`. Processor: {model}. Times are medians of {} \
+         interleaved\nrepetitions in one run, by the wall clock. Every answer, output and table is compared in the \
+         run.\n\n- `proved`: the library behind the C interface, and program one.\n- `sorted`: plain safe Rust, the words \
+         sorted in a `Vec` and searched.\n- `bit rows`: plain safe Rust, sets of 256 bits, written for speed.\n",
+        settings.repetitions
+    )
+}
+
+fn host_calls_part(paper: &host_calls::Measured, plants: &[host_calls::Measured]) -> String {
+    let mut text = String::from(
+        "\n## The host call\n\nAn image is read and checked, a ticket applied, the new image written. The tickets: a new \
+         individual in a class, which\nleaves the graph with the facts stated; the same again; an unused byte that is not 0 \
+         (7); a class link that closes\na circle (10); the deletion of an individual.\n\n",
+    );
+    let mut lines = Vec::new();
+    for measured in std::iter::once(paper).chain(plants) {
+        let graph = format!("{}, {} facts", measured.subject, measured.facts);
+        let each = measured.calls.iter().map(|line| Line { work: format!("{graph}: {}", line.work), ..line.clone() });
+        lines.extend(each);
+        lines.push(Line { work: format!("{graph}: mean of the five"), times: measured.mean.clone() });
+    }
+    text += &table("host call", Unit::Microseconds, &lines);
+    text + &checks_part(paper, plants)
+}
+
+fn checks_part(paper: &host_calls::Measured, plants: &[host_calls::Measured]) -> String {
+    let mut text = String::from(
+        "\n## Read and check\n\nThe host call with an empty ticket reads the image and checks the graph before it refuses \
+         (4). Below it the same call\nof the proved library beside the check of a table alone of the rivals, which read no \
+         image.\n\n",
+    );
+    let all = || std::iter::once(paper).chain(plants);
+    let of = |what: &str, measured: &host_calls::Measured| format!("{what}, {} facts", measured.facts);
+    let mut lines: Vec<Line> =
+        all().map(|m| Line { work: of("read and check", m), times: m.read_and_check.clone() }).collect();
+    lines.extend(all().map(|m| {
+        let times = [vec![m.read_and_check[0]], m.check.clone()].concat();
+        Line { work: of("rivals: check alone", m), times }
+    }));
+    text += &table("work", Unit::Microseconds, &lines);
+    text
+}
+
+fn growth_part(curves: &[Curve], plants: &[host_calls::Measured]) -> String {
+    let checks: Vec<Vec<f64>> = plants.iter().map(|measured| measured.read_and_check.clone()).collect();
+    let sizes: Vec<usize> = plants.iter().map(|measured| measured.facts).collect();
+    let row = |work: &str, curves: &[Curve]| {
+        let exponents = curves.iter().map(|curve| format!("{:.2}", curve.exponent()));
+        std::iter::once(work.to_string()).chain(exponents).collect::<Vec<_>>()
+    };
+    let heads = std::iter::once("exponent").chain(NAMES).map(String::from).collect();
+    let rows =
+        [heads, row("mean of the five tickets", curves), row("read and check", &Curve::each(&sizes, &checks))];
+    format!(
+        "\n## Growth\n\nThe exponent of the time over the number of facts, {} to {}: least squares of the \
+         logarithms.\n\n{}\n![Growth of the host call](growth.svg)\n",
+        sizes[0],
+        sizes[sizes.len() - 1],
+        laid_out(&rows)
+    )
+}
+
+fn programs_part(settings: &Settings) -> String {
+    let lists = [
+        ("mostly bad", lists::mostly_bad(1_000_000 / settings.share)),
+        ("plants", lists::plants(200_000 / settings.share)),
+        ("plants, filled", lists::filled_plants(200_000 / settings.share)),
+        ("dense", lists::dense(400_000 / settings.share)),
+    ];
+    let measured = lists.map(|(name, list)| programs::measure(settings, name, &list));
+    let mut rows = vec![["list", "tickets", "accepted"].map(String::from).to_vec()];
+    rows.extend(measured.iter().map(|m| vec![m.line.work.clone(), m.tickets.to_string(), m.accepted.to_string()]));
+    let lines: Vec<Line> = measured.into_iter().map(|m| m.line).collect();
+    format!(
+        "\n## Program one\n\nAs a process that reads a file; its output is thrown away while the clock runs. `mostly bad`: \
+         kinds 1 to 10 and ids 0 to 31\ndrawn freely. `plants`: plants that fill a table of 2,048 words, each taken down \
+         ticket by ticket. `plants, filled`: the\nsame, but cleared by deleting each id. `dense`: insertions and deletions \
+         among 31 ids.\n\n{}\nTime for one ticket:\n\n{}\nTime to start and end without tickets, which is within the times \
+         above:\n\n{}",
+        laid_out(&rows),
+        table("list", Unit::Nanoseconds, &lines),
+        table("process", Unit::Microseconds, &[programs::measure_start(settings)])
+    )
+}
+
+fn sqlite_part(settings: &Settings) -> String {
+    let head = "\n## SQLite\n\n";
+    if !sqlite::is_installed() {
+        return format!("{head}The command `sqlite3` is not installed: not measured.\n");
+    }
+    let most = 4000 / settings.share;
+    let plant = lists::plants(1);
+    let plant = sqlite::insertions(&plant, most);
+    let dense = sqlite::insertions(&lists::dense(2 * most), most);
+    let mut rows = vec![["insertions of", "tickets", "facts at the end", "a ticket"].map(String::from).to_vec()];
+    for (name, tickets) in [("the first plant", plant), ("dense", dense)] {
+        let m = sqlite::measure(name, &tickets);
+        let time = shown(Unit::Microseconds, m.time);
+        rows.push(vec![name.to_string(), m.tickets.to_string(), m.facts.to_string(), time]);
+    }
+    format!(
+        "{head}A smaller piece of work than program one's: insertions of good form only, by triggers that carry the side \
+         effects, in\none transaction on a database in memory, through the command `sqlite3`. No deletion, no bound of 2,048 \
+         facts, no answers\nprinted. The table at the end is the same. Least of three runs, the start of the process \
+         taken off.\n\n{}",
+        laid_out(&rows)
+    )
+}

@@ -1,0 +1,67 @@
+//! Tables of times, as Markdown.
+
+use crate::candidates::NAMES;
+
+/// One piece of work and what it takes each candidate, in nanoseconds.
+#[derive(Clone)]
+pub struct Line {
+    pub work: String,
+    pub times: Vec<f64>,
+}
+
+/// How a table shows its times.
+#[derive(Clone, Copy)]
+pub enum Unit {
+    Microseconds,
+    Nanoseconds,
+}
+
+/// A table with a column for each candidate and the proved one's ratio to each rival.
+pub fn table(first: &str, unit: Unit, lines: &[Line]) -> String {
+    let [proved, sorted, bits] = NAMES;
+    let heads = [first, proved, sorted, bits].map(String::from).to_vec();
+    let ratios = [format!("{proved} / {sorted}"), format!("{proved} / {bits}")];
+    let mut rows = vec![[heads, ratios.to_vec()].concat()];
+    rows.extend(lines.iter().map(|line| cells(unit, line)));
+    laid_out(&rows)
+}
+
+fn cells(unit: Unit, line: &Line) -> Vec<String> {
+    let mut cells = vec![line.work.clone()];
+    cells.extend(line.times.iter().map(|time| shown(unit, *time)));
+    cells.extend(line.times[1..].iter().map(|time| format!("{:.2}", line.times[0] / time)));
+    cells
+}
+
+pub fn shown(unit: Unit, nanoseconds: f64) -> String {
+    let (number, name) = match unit {
+        Unit::Microseconds => (nanoseconds / 1000.0, "µs"),
+        Unit::Nanoseconds => (nanoseconds, "ns"),
+    };
+    let digits = if number < 100.0 { 1 } else { 0 };
+    format!("{number:.digits$} {name}")
+}
+
+/// Rows of cells in columns, the first row the heads; the first column to the left, the others to the right.
+pub fn laid_out(rows: &[Vec<String>]) -> String {
+    let columns = 0..rows[0].len();
+    let longest = |column: usize| rows.iter().map(|row| row[column].chars().count()).max().unwrap_or(0);
+    let widths: Vec<usize> = columns.map(longest).collect();
+    let rule = widths.iter().enumerate().map(|(column, width)| match column {
+        0 => "-".repeat(*width),
+        _ => "-".repeat(width - 1) + ":",
+    });
+    let mut text = row_text(&rows[0], &widths) + &row_text(&rule.collect::<Vec<_>>(), &widths);
+    for row in &rows[1..] {
+        text += &row_text(row, &widths);
+    }
+    text
+}
+
+fn row_text(cells: &[String], widths: &[usize]) -> String {
+    let padded = cells.iter().zip(widths).enumerate().map(|(column, (cell, width))| match column {
+        0 => format!("{cell:<width$}"),
+        _ => format!("{cell:>width$}"),
+    });
+    format!("| {} |\n", padded.collect::<Vec<_>>().join(" | "))
+}
