@@ -1,6 +1,6 @@
 //! The host call on images, and the check.
 
-use crate::candidates::{CHECKS, HOST_CALLS};
+use crate::candidates::{HostCall, CHECKS, HOST_CALLS};
 use crate::clock::{medians, repeated, Run};
 use crate::rivals::contents::LONGEST_IMAGE;
 use crate::settings::Settings;
@@ -9,7 +9,7 @@ use crate::tables::Line;
 
 /// What was measured on one graph.
 pub struct Measured {
-    pub subject: String,
+    pub subject: &'static str,
     pub facts: usize,
     /// A line for each ticket, and one for their mean.
     pub calls: Vec<Line>,
@@ -27,7 +27,7 @@ pub fn measure(settings: &Settings, subject: &Subject) -> Measured {
     let mean_of = |column: usize| calls.iter().map(|line| line.times[column]).sum::<f64>() / count;
     let mean = (0..HOST_CALLS.len()).map(mean_of).collect();
     Measured {
-        subject: subject.name.clone(),
+        subject: subject.name,
         facts: subject.facts,
         mean,
         calls,
@@ -46,10 +46,10 @@ fn measure_call(settings: &Settings, call: &Call) -> Vec<f64> {
     assert_eq!(answered[0].0 as u16, call.number, "{}", call.name);
     let run = |host_call| repeated(settings.slice, called(host_call, call));
     let mut runs: Vec<Run> = HOST_CALLS.into_iter().map(run).collect();
-    medians(settings.repetitions, &mut runs)
+    medians(settings.slices, &mut runs)
 }
 
-fn called<'a>(host_call: crate::candidates::HostCall, call: &'a Call) -> impl FnMut() -> u64 + 'a {
+fn called<'a>(host_call: HostCall, call: &'a Call) -> impl FnMut() -> u64 + 'a {
     let mut output = vec![0; LONGEST_IMAGE];
     move || host_call(call.image, &call.ticket, &mut output)
 }
@@ -58,5 +58,5 @@ fn measure_check(settings: &Settings, table: &[u32]) -> Vec<f64> {
     assert!(CHECKS.iter().all(|check| check(table) == 0));
     let run = |check: fn(&[u32]) -> u8| repeated(settings.slice, move || check(table));
     let mut runs: Vec<Run> = CHECKS.into_iter().map(run).collect();
-    medians(settings.repetitions, &mut runs)
+    medians(settings.slices, &mut runs)
 }

@@ -62,6 +62,11 @@ impl Plant {
         &self.table
     }
 
+    /// The class that a class stands directly under.
+    pub fn over(&self, class: u8) -> u8 {
+        self.parents[usize::from(class - FIRST_CLASS)].0
+    }
+
     /// Runs a ticket and keeps it if it changes something and the graph stays within bounds.
     fn offer(&mut self, ticket: Bytes) -> bool {
         let mut next = self.table.clone();

@@ -53,7 +53,7 @@ fn output_of(candidate: &str, path: &Path) -> Vec<u8> {
 
 fn time_processes(settings: &Settings, path: &Path) -> Vec<f64> {
     let mut runs: Vec<Run> = NAMES.into_iter().map(|candidate| timed(candidate, path)).collect();
-    medians(settings.repetitions, &mut runs)
+    medians(settings.processes, &mut runs)
 }
 
 fn timed<'a>(candidate: &'a str, path: &'a Path) -> Run<'a> {

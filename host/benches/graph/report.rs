@@ -37,12 +37,14 @@ fn head(settings: &Settings) -> String {
     let cpu = fs::read_to_string("/proc/cpuinfo").unwrap_or_default();
     let model = cpu.lines().find_map(|line| line.strip_prefix("model name")).unwrap_or(": unknown");
     let model = model.trim_start_matches([' ', '\t', ':']);
+    let Settings { slices, processes, slice, .. } = settings;
     format!(
-        "# Benchmark\n\nWritten by `cargo bench --offline -- --write` in `host/`. Processor: {model}. Times are medians of {} \
-         interleaved\nrepetitions in one run, by the wall clock. Every answer, output and table is compared in the \
-         run.\n\n- `proved`: the library behind the C interface, and program one.\n- `sorted`: plain safe Rust, the words \
-         sorted in a `Vec` and searched.\n- `bit rows`: plain safe Rust, sets of 256 bits, written for speed.\n",
-        settings.repetitions
+        "# Benchmark\n\nWritten by `cargo bench --offline -- --write` in `host/`. Processor: {model}. Times are medians by \
+         the wall clock,\nof {slices} readings of a host call (each {slice:?} of calls) and {processes} of a process. The \
+         candidates take turns within each\nrepetition, and each repetition starts with another one. All answers, outputs \
+         and tables are compared in the run.\n\n- `proved`: the library behind the C interface, and program one.\n- \
+         `sorted`: plain safe Rust, the words sorted in a `Vec` and searched.\n- `bit rows`: plain safe Rust, sets of 256 \
+         bits, written for speed.\n"
     )
 }
 
@@ -64,21 +66,18 @@ fn host_calls_part(paper: &host_calls::Measured, plants: &[host_calls::Measured]
 }
 
 fn checks_part(paper: &host_calls::Measured, plants: &[host_calls::Measured]) -> String {
-    let mut text = String::from(
-        "\n## Read and check\n\nThe host call with an empty ticket reads the image and checks the graph before it refuses \
-         (4). Below it the same call\nof the proved library beside the check of a table alone of the rivals, which read no \
-         image.\n\n",
-    );
     let all = || std::iter::once(paper).chain(plants);
-    let of = |what: &str, measured: &host_calls::Measured| format!("{what}, {} facts", measured.facts);
-    let mut lines: Vec<Line> =
-        all().map(|m| Line { work: of("read and check", m), times: m.read_and_check.clone() }).collect();
-    lines.extend(all().map(|m| {
-        let times = [vec![m.read_and_check[0]], m.check.clone()].concat();
-        Line { work: of("rivals: check alone", m), times }
-    }));
-    text += &table("work", Unit::Microseconds, &lines);
-    text
+    let graph = |measured: &host_calls::Measured| format!("{}, {} facts", measured.subject, measured.facts);
+    let read: Vec<Line> = all().map(|m| Line { work: graph(m), times: m.read_and_check.clone() }).collect();
+    let beside = |m: &host_calls::Measured| [vec![m.read_and_check[0]], m.check.clone()].concat();
+    let alone: Vec<Line> = all().map(|m| Line { work: graph(m), times: beside(m) }).collect();
+    format!(
+        "\n## Read and check\n\nThe host call with an empty ticket reads the image and checks the graph before it refuses \
+         (4).\n\n{}\nThe same call of the proved library, whose check does not cross the C interface by itself, beside the \
+         rivals' check of\na table alone, for which they read no image.\n\n{}",
+        table("read and check", Unit::Microseconds, &read),
+        table("rivals: check alone", Unit::Microseconds, &alone)
+    )
 }
 
 fn growth_part(curves: &[Curve], plants: &[host_calls::Measured]) -> String {
@@ -89,8 +88,7 @@ fn growth_part(curves: &[Curve], plants: &[host_calls::Measured]) -> String {
         std::iter::once(work.to_string()).chain(exponents).collect::<Vec<_>>()
     };
     let heads = std::iter::once("exponent").chain(NAMES).map(String::from).collect();
-    let rows =
-        [heads, row("mean of the five tickets", curves), row("read and check", &Curve::each(&sizes, &checks))];
+    let rows = [heads, row("mean of the five tickets", curves), row("read and check", &Curve::each(&sizes, &checks))];
     format!(
         "\n## Growth\n\nThe exponent of the time over the number of facts, {} to {}: least squares of the \
          logarithms.\n\n{}\n![Growth of the host call](growth.svg)\n",

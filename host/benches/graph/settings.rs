@@ -3,10 +3,12 @@
 use std::time::Duration;
 
 pub struct Settings {
-    pub repetitions: usize,
-    /// How long a host call is repeated for one reading.
+    /// How often each process is run.
+    pub processes: usize,
+    /// How many readings are taken of each host call, and how long it is repeated for one of them.
+    pub slices: usize,
     pub slice: Duration,
-    /// The tickets of the lists, for each a tenth in a short run.
+    /// The lists have so many times fewer tickets.
     pub share: usize,
     pub writes: bool,
 }
@@ -16,8 +18,8 @@ impl Settings {
         let has = |word: &str| words.iter().any(|other| other == word);
         let writes = has("--write");
         if has("--quick") {
-            return Settings { repetitions: 3, slice: Duration::from_millis(1), share: 10, writes };
+            return Settings { processes: 3, slices: 5, slice: Duration::from_millis(1), share: 10, writes };
         }
-        Settings { repetitions: 11, slice: Duration::from_millis(4), share: 1, writes }
+        Settings { processes: 11, slices: 61, slice: Duration::from_millis(1), share: 1, writes }
     }
 }

@@ -12,15 +12,19 @@ pub const SIZES: [usize; 5] = [128, 256, 512, 1024, 2048];
 /// A new individual in a class under a root: itself, and its membership in three classes.
 const ROOM: usize = 4;
 
-/// A graph before and after its insertion, and five tickets.
+/// A graph and the tickets that are run on it.
 pub struct Subject {
-    pub name: String,
+    pub name: &'static str,
     pub facts: usize,
-    /// The image on which the insertion is run, and the one that it leaves, on which the others are.
-    pub before: Vec<u8>,
-    pub after: Vec<u8>,
+    /// The image on which the insertion is run, and the one for the other tickets.
+    open: Vec<u8>,
+    image: Vec<u8>,
     /// The words of the latter in a table of 2,048.
     pub table: Vec<u32>,
+    tickets: Tickets,
+}
+
+struct Tickets {
     insertion: Bytes,
     repeat: Bytes,
     clash: Bytes,
@@ -37,68 +41,63 @@ pub struct Call<'a> {
 }
 
 impl Subject {
-    /// The paper's graph; the new individual is in its lowest class.
+    /// The paper's graph; the new individual comes into its lowest class.
     pub fn paper() -> Subject {
-        let tickets = paper::tickets();
-        let table = table_of(&tickets);
-        Subject::of("paper (5,5)", table, [1, MEMBER, 65, 2, 0], [1, SUBCLASS, 6, 2, 0], [2, INDIVIDUAL, 40, 0, 0])
+        let mut table = Sorted::fresh();
+        for ticket in paper::tickets() {
+            assert_eq!(table.apply(&ticket).number, 0);
+        }
+        let tickets = Tickets {
+            insertion: [1, MEMBER, 65, 2, 0],
+            repeat: [1, MEMBER, 40, 2, 0],
+            clash: [1, SUBCLASS, 6, 2, 0],
+            deletion: [2, INDIVIDUAL, 40, 0, 0],
+        };
+        Subject::of("paper (5,5)", table.image(), &table, tickets)
     }
 
-    /// A plant graph that has exactly so many facts once the insertion is done, if the drawn ones come so far.
+    /// A plant graph of so many facts, if the drawn ones come so far. The insertion is run on it as it was before, with
+    /// the room that is needed.
     pub fn plant(facts: usize) -> Subject {
         let plant = Plant::draw(1, facts - ROOM);
+        let open = plant.table().image();
         let insertion = [1, MEMBER, NEW_INDIVIDUAL, SECOND_CLASS, 0];
-        let clash = [1, SUBCLASS, SECOND_CLASS, SECOND_CLASS, 0];
-        let deletion = [2, INDIVIDUAL, FIRST_INDIVIDUAL, 0, 0];
-        Subject::of("plant", plant.table().clone(), insertion, clash, deletion)
-    }
-
-    fn of(name: &str, table: Sorted, insertion: Bytes, clash: Bytes, deletion: Bytes) -> Subject {
-        let before = table.image();
-        let mut table = table;
-        assert!(table.apply(&insertion).added > 0);
-        let mut words = table.words().to_vec();
-        words.resize(MOST_WORDS, 0);
-        Subject {
-            name: name.to_string(),
-            facts: table.count_facts(),
-            before,
-            after: table.image(),
-            table: words,
+        let mut table = plant.table().clone();
+        assert_eq!(table.apply(&insertion).added, ROOM);
+        let tickets = Tickets {
             insertion,
             repeat: insertion,
-            clash,
-            deletion,
-        }
+            clash: [1, SUBCLASS, plant.over(SECOND_CLASS), SECOND_CLASS, 0],
+            deletion: [2, INDIVIDUAL, FIRST_INDIVIDUAL, 0, 0],
+        };
+        Subject::of("plant", open, &table, tickets)
+    }
+
+    fn of(name: &'static str, open: Vec<u8>, table: &Sorted, tickets: Tickets) -> Subject {
+        let mut words = table.words().to_vec();
+        words.resize(MOST_WORDS, 0);
+        Subject { name, facts: table.count_facts(), open, image: table.image(), table: words, tickets }
     }
 
     /// The five calls whose mean is reported.
     pub fn calls(&self) -> [Call<'_>; 5] {
-        let mut bad = self.repeat;
-        bad[4] = 7;
+        let [operation, kind, a, b, _] = self.tickets.repeat;
+        let bad_form = [operation, kind, a, b, 7];
         [
-            call("insertion", &self.before, &self.insertion, 0),
-            call("repeat", &self.after, &self.repeat, 0),
-            call("bad form", &self.after, &bad, 7),
-            call("clash", &self.after, &self.clash, 10),
-            call("deletion", &self.after, &self.deletion, 0),
+            call("insertion", &self.open, &self.tickets.insertion, 0),
+            call("repeat", &self.image, &self.tickets.repeat, 0),
+            call("bad form", &self.image, &bad_form, 7),
+            call("clash", &self.image, &self.tickets.clash, 10),
+            call("deletion", &self.image, &self.tickets.deletion, 0),
         ]
     }
 
     /// The image is read and checked; then the ticket is refused for its length.
     pub fn read_and_check(&self) -> Call<'_> {
-        call("read and check", &self.after, &[], 4)
+        call("read and check", &self.image, &[], 4)
     }
 }
 
 fn call<'a>(name: &'static str, image: &'a [u8], ticket: &[u8], number: u16) -> Call<'a> {
     Call { name, image, ticket: ticket.to_vec(), number }
-}
-
-fn table_of(tickets: &[Bytes]) -> Sorted {
-    let mut table = Sorted::fresh();
-    for ticket in tickets {
-        assert_eq!(table.apply(ticket).number, 0);
-    }
-    table
 }

@@ -35,14 +35,15 @@ pub fn width(kind: u8) -> usize {
     }
 }
 
+/// The bits of unused ids, by kind.
+const UNUSED: [u32; 11] = [!0, 0xffff, 0xffff, 0xffff, 0xffff, 0xff, 0xff, 0xff, 0xff, 0xff, 0];
+
 /// The word is a fact: its kind is one, unused ids are 0, and the mark stands only as b of a range.
 pub fn is_fact(word: u32) -> bool {
     let [kind, a, b, c] = word.to_be_bytes();
-    let unused_are_zero = match width(kind) {
-        0 => false,
-        1 => b == 0 && c == 0,
-        2 => c == 0,
-        _ => true,
+    let Some(unused) = UNUSED.get(usize::from(kind)) else {
+        return false;
     };
-    unused_are_zero && a != MARK && c != MARK && (b != MARK || kind == RANGE)
+    let has_mark = (a == MARK) | (c == MARK) | ((b == MARK) & (kind != RANGE));
+    (kind != 0) & (word & unused == 0) & !has_mark
 }

@@ -1,6 +1,6 @@
 //! The check, row by row.
 
-use super::image::Loaded;
+use super::loaded::Loaded;
 use super::rows::*;
 use super::set::Set;
 use crate::rivals::fact::*;
@@ -10,19 +10,16 @@ pub fn check(table: &[u32]) -> u8 {
     if table.is_empty() || table.len() > MOST_WORDS {
         return 1;
     }
-    let mut loaded = Loaded::empty();
     let count = table.iter().position(|word| *word == 0).unwrap_or(table.len());
-    let mut last = 0;
-    for fact in &table[..count] {
-        if *fact <= last || !is_fact(*fact) {
-            return 2;
-        }
-        last = *fact;
-        let [kind, a, b, c] = fact.to_be_bytes();
-        loaded.put(kind, a, b, c);
-    }
-    if table[count..].iter().any(|word| *word != 0) {
+    let (words, zeros) = table.split_at(count);
+    let ascending = words.windows(2).all(|pair| pair[0] < pair[1]);
+    if !ascending || !words.iter().all(|fact| is_fact(*fact)) || zeros.iter().any(|word| *word != 0) {
         return 2;
+    }
+    let mut loaded = Loaded::empty();
+    for facts in words.chunk_by(|one, other| one >> 24 == other >> 24) {
+        let ids = facts.iter().map(|fact| fact.to_be_bytes()).map(|[_, a, b, c]| [a, b, c]);
+        loaded.put_all((facts[0] >> 24) as u8, ids);
     }
     if is_consistent(&loaded) {
         0
@@ -43,7 +40,8 @@ pub fn is_consistent(loaded: &Loaded) -> bool {
 
 /// Rules 4, 5, 6, H1 and H2.
 fn sorts_are_apart(rows: &Rows) -> bool {
-    let [classes, properties, individuals, literals] = [CLASS, PROPERTY, INDIVIDUAL, LITERAL].map(|sort| rows.sort(sort));
+    let [classes, properties, individuals, literals] =
+        [CLASS, PROPERTY, INDIVIDUAL, LITERAL].map(|sort| rows.sort(sort));
     let shared = classes.and(properties).or(classes.or(properties).and(individuals));
     let others = classes.or(properties).or(individuals);
     classes.has(RESOURCE) && shared.is_empty() && others.and(literals).is_empty()
@@ -91,9 +89,10 @@ fn properties_are_an_order(loaded: &Loaded) -> bool {
         })
     };
     loaded.linked_properties.is_part_of(&properties)
-        && loaded.linked_properties.ids().all(|p| {
-            is_closed(rows, OVER, p, &properties) && rows.row(OVER, p).ids().all(|q| narrower(p, q))
-        })
+        && loaded
+            .linked_properties
+            .ids()
+            .all(|p| is_closed(rows, OVER, p, &properties) && rows.row(OVER, p).ids().all(|q| narrower(p, q)))
 }
 
 /// Rules 11, 14 and 26.

@@ -1,74 +1,10 @@
-//! Rows from an image or from words, and the image of rows.
+//! Rows from an image, and the image of rows.
 
+use super::loaded::Loaded;
 use super::rows::*;
 use super::set::Set;
 use crate::rivals::contents::*;
 use crate::rivals::fact::*;
-
-/// Rows as they came, with what the check needs beside them.
-pub struct Loaded {
-    pub rows: Rows,
-    /// The first ids of links, memberships, domains and ranges, and the properties of values.
-    pub linked: Set,
-    pub linked_properties: Set,
-    pub placed: Set,
-    pub with_domain: Set,
-    pub with_range: Set,
-    pub valued: Set,
-    /// A property has two domains or two ranges.
-    pub has_double: bool,
-}
-
-impl Loaded {
-    pub fn empty() -> Loaded {
-        Loaded {
-            rows: Rows::empty(),
-            linked: Set::EMPTY,
-            linked_properties: Set::EMPTY,
-            placed: Set::EMPTY,
-            with_domain: Set::EMPTY,
-            with_range: Set::EMPTY,
-            valued: Set::EMPTY,
-            has_double: false,
-        }
-    }
-
-    #[inline(always)]
-    pub fn put(&mut self, kind: u8, a: u8, b: u8, c: u8) {
-        match kind {
-            SUBCLASS => {
-                self.linked.put(a);
-                self.rows.put(ABOVE, a, b);
-                self.rows.put(BELOW, b, a);
-            }
-            SUBPROPERTY => {
-                self.linked_properties.put(a);
-                self.rows.put(OVER, a, b);
-                self.rows.put(UNDER, b, a);
-            }
-            DOMAIN => {
-                self.has_double |= self.with_domain.has(a);
-                self.with_domain.put(a);
-                self.rows.domain[usize::from(a)] = b;
-            }
-            RANGE => {
-                self.has_double |= self.with_range.has(a);
-                self.with_range.put(a);
-                self.rows.range[usize::from(a)] = b;
-            }
-            MEMBER => {
-                self.placed.put(a);
-                self.rows.put(CLASSES, a, b);
-                self.rows.put(MEMBERS, b, a);
-            }
-            VALUE => {
-                self.valued.put(c);
-                self.rows.put_value(c, a, b);
-            }
-            sort => self.rows.put(SORTS, sort, a),
-        }
-    }
-}
 
 /// The rows of an image, or refusal 12 or 11.
 pub fn load(image: &[u8]) -> Result<Loaded, u8> {
@@ -80,18 +16,13 @@ pub fn load(image: &[u8]) -> Result<Loaded, u8> {
     for kind in CLASS..=VALUE {
         let (body, after) = rest.split_at(width(kind) * counts[usize::from(kind)]);
         rest = after;
-        let mut last = word(kind, 0, 0, 0);
-        let mut is_first = true;
-        for ids in body.chunks_exact(width(kind)) {
-            let (b, c) = (ids.get(1).copied().unwrap_or(0), ids.get(2).copied().unwrap_or(0));
-            let fact = word(kind, ids[0], b, c);
-            if (fact <= last && !is_first) || !is_fact(fact) {
-                return Err(12);
-            }
-            (last, is_first) = (fact, false);
-            if is_short {
-                loaded.put(kind, ids[0], b, c);
-            }
+        let is_good = match width(kind) {
+            1 => load_body(&mut loaded, kind, body.iter().map(|a| [*a, 0, 0]), is_short),
+            2 => load_body(&mut loaded, kind, body.chunks_exact(2).map(|ids| [ids[0], ids[1], 0]), is_short),
+            _ => load_body(&mut loaded, kind, body.chunks_exact(3).map(|ids| [ids[0], ids[1], ids[2]]), is_short),
+        };
+        if !is_good {
+            return Err(12);
         }
     }
     if is_short {
@@ -99,6 +30,23 @@ pub fn load(image: &[u8]) -> Result<Loaded, u8> {
     } else {
         Err(11)
     }
+}
+
+/// Whether the body is facts, ascending; if so they are put in.
+#[inline(always)]
+fn load_body(loaded: &mut Loaded, kind: u8, facts: impl Iterator<Item = [u8; 3]> + Clone, puts: bool) -> bool {
+    let mut is_good = true;
+    let mut least = 0;
+    for [a, b, c] in facts.clone() {
+        let fact = word(0, a, b, c);
+        let has_mark = (a == MARK) | (c == MARK) | ((b == MARK) & (kind != RANGE));
+        is_good &= (fact >= least) & !has_mark;
+        least = fact + 1;
+    }
+    if is_good && puts {
+        loaded.put_all(kind, facts);
+    }
+    is_good
 }
 
 /// Writes the image and answers its length, or none if the output is too short.
@@ -118,43 +66,50 @@ pub fn write(rows: &Rows, output: &mut [u8]) -> Option<usize> {
 }
 
 fn push_body(rows: &Rows, kind: u8, bodies: &mut Vec<u8>) {
-    let properties = rows.sort(PROPERTY).ids();
     match kind {
         SUBCLASS => push_rows(rows, ABOVE, rows.sort(CLASS), bodies),
         SUBPROPERTY => push_rows(rows, OVER, rows.sort(PROPERTY), bodies),
-        DOMAIN => bodies.extend(properties.flat_map(|p| [p, rows.domain[usize::from(p)]])),
-        RANGE => bodies.extend(properties.flat_map(|p| [p, rows.range[usize::from(p)]])),
+        DOMAIN => push_ends(rows, &rows.domain, bodies),
+        RANGE => push_ends(rows, &rows.range, bodies),
         MEMBER => push_rows(rows, CLASSES, rows.sort(INDIVIDUAL), bodies),
-        VALUE => rows.sort(INDIVIDUAL).ids().for_each(|x| push_values(rows, x, bodies)),
+        VALUE => push_values(rows, bodies),
         sort => bodies.extend(rows.sort(sort).ids()),
+    }
+}
+
+fn push_ends(rows: &Rows, ends: &[u8; 256], bodies: &mut Vec<u8>) {
+    for p in rows.sort(PROPERTY).ids() {
+        bodies.extend_from_slice(&[p, ends[usize::from(p)]]);
     }
 }
 
 fn push_rows(rows: &Rows, of: usize, firsts: Set, bodies: &mut Vec<u8>) {
     for x in firsts.ids() {
         for y in rows.row(of, x).ids() {
-            bodies.extend([x, y]);
+            bodies.extend_from_slice(&[x, y]);
         }
     }
 }
 
-/// The values of one subject, by value and then by property.
-fn push_values(rows: &Rows, x: u8, bodies: &mut Vec<u8>) {
-    let mut all = Set::EMPTY;
-    let mut held = [(0, Set::EMPTY); 256];
-    let mut count = 0;
-    for p in rows.sort(PROPERTY).ids() {
-        if rows.row(SUBJECTS, p).has(x) {
-            held[count] = (p, rows.values(p, x));
-            all = all.or(held[count].1);
-            count += 1;
-        }
-    }
-    for y in all.ids() {
-        for (p, values) in &held[..count] {
-            if values.has(y) {
-                bodies.extend([x, y, *p]);
+/// All values, by subject, by value and then by property: the rows of a subject are turned into the properties of each of
+/// its values.
+fn push_values(rows: &Rows, bodies: &mut Vec<u8>) {
+    let mut properties = [Set::EMPTY; 256];
+    let valued = rows.sort(PROPERTY);
+    for x in rows.sort(INDIVIDUAL).ids() {
+        let mut all = Set::EMPTY;
+        for p in valued.ids() {
+            if rows.row(SUBJECTS, p).has(x) {
+                let values = rows.values(p, x);
+                all = all.or(values);
+                values.ids().for_each(|y| properties[usize::from(y)].put(p));
             }
+        }
+        for y in all.ids() {
+            for p in properties[usize::from(y)].ids() {
+                bodies.extend_from_slice(&[x, y, p]);
+            }
+            properties[usize::from(y)] = Set::EMPTY;
         }
     }
 }

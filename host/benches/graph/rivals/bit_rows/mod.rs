@@ -5,6 +5,7 @@ mod check;
 mod deletion;
 mod image;
 mod insertion;
+mod loaded;
 mod rows;
 mod set;
 

@@ -1,6 +1,6 @@
 //! The check: for every rule the runs that it speaks of are walked, and each fact that it needs is searched.
 
-use super::{a_of, b_of, c_of, has, of_first, of_kind, word};
+use super::{a_of, b_of, c_of, end_of, has, of_first, of_kind};
 use crate::rivals::fact::*;
 
 /// The check of a table: refusals 1, 2, 3, or 0.
@@ -89,12 +89,12 @@ impl Runs<'_> {
 
     /// The domain of a property that has one.
     fn domain_of(&self, p: u8) -> u8 {
-        b_of(of_first(self.domains, DOMAIN, p)[0])
+        end_of(self.domains, DOMAIN, p)
     }
 
     /// The range of a property that has one.
     fn range_of(&self, p: u8) -> u8 {
-        b_of(of_first(self.ranges, RANGE, p)[0])
+        end_of(self.ranges, RANGE, p)
     }
 
     /// Rules 4, 5, 6, H1 and H2.
@@ -132,7 +132,8 @@ impl Runs<'_> {
 
     /// Rules 15, 16 and 17.
     fn properties_have_one_of_each(&self) -> bool {
-        let has_one = |p: u8| of_first(self.domains, DOMAIN, p).len() == 1 && of_first(self.ranges, RANGE, p).len() == 1;
+        let has_one =
+            |p: u8| of_first(self.domains, DOMAIN, p).len() == 1 && of_first(self.ranges, RANGE, p).len() == 1;
         self.properties.iter().all(|known| has_one(a_of(*known)))
     }
 

@@ -37,6 +37,12 @@ fn has(words: &[u32], word: u32) -> bool {
     words.binary_search(&word).is_ok()
 }
 
+/// The domain or the range of a property that has one.
+fn end_of(words: &[u32], kind: u8, p: u8) -> u8 {
+    let place = words.partition_point(|other| *other < word(kind, p, 0, 0));
+    b_of(words[place])
+}
+
 fn a_of(word: u32) -> u8 {
     word.to_be_bytes()[1]
 }
@@ -63,21 +69,15 @@ impl Lookups for Sorted {
     }
 
     fn domain_of(&self, p: u8) -> u8 {
-        self.end_of(DOMAIN, p)
+        end_of(&self.words, DOMAIN, p)
     }
 
     fn range_of(&self, p: u8) -> u8 {
-        self.end_of(RANGE, p)
+        end_of(&self.words, RANGE, p)
     }
 }
 
 impl Sorted {
-    /// The domain or the range of a property, of which a consistent table has one.
-    fn end_of(&self, kind: u8, p: u8) -> u8 {
-        let place = self.words.partition_point(|other| *other < word(kind, p, 0, 0));
-        b_of(self.words[place])
-    }
-
     /// The words of the table's facts.
     pub fn words(&self) -> &[u32] {
         &self.words
