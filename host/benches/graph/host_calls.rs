@@ -19,25 +19,48 @@ pub struct Measured {
     pub check: Vec<f64>,
 }
 
-pub fn measure(settings: &Settings, subject: &Subject) -> Measured {
-    let times = |call: &Call| measure_call(settings, call);
-    let calls: Vec<Line> =
-        subject.calls().iter().map(|call| Line { work: call.name.to_string(), times: times(call) }).collect();
-    let count = calls.len() as f64;
-    let mean_of = |column: usize| calls.iter().map(|line| line.times[column]).sum::<f64>() / count;
-    let mean = (0..HOST_CALLS.len()).map(mean_of).collect();
-    Measured {
-        subject: subject.name,
-        facts: subject.facts,
-        mean,
-        calls,
-        read_and_check: times(&subject.read_and_check()),
-        check: measure_check(settings, &subject.table),
+/// Measures all calls on all graphs, each once within every repetition.
+pub fn measure(settings: &Settings, subjects: &[Subject]) -> Vec<Measured> {
+    let calls: Vec<Vec<Call>> = subjects.iter().map(Subject::calls).collect();
+    let mut runs = Vec::new();
+    for (subject, calls) in subjects.iter().zip(&calls) {
+        runs.extend(calls.iter().flat_map(|call| call_runs(settings, call)));
+        runs.extend(check_runs(settings, &subject.table));
+    }
+    let times = medians(settings.slices, &mut runs);
+    let mut rest = times.as_slice();
+    let mut measured = Vec::new();
+    for (subject, calls) in subjects.iter().zip(&calls) {
+        let (own, after) = rest.split_at(HOST_CALLS.len() * calls.len() + CHECKS.len());
+        measured.push(Measured::of(subject, calls, own));
+        rest = after;
+    }
+    measured
+}
+
+impl Measured {
+    /// Sorts the times of one graph: each call's by candidate, the last call being that which reads and checks; then
+    /// those of the checks.
+    fn of(subject: &Subject, calls: &[Call], times: &[f64]) -> Measured {
+        let (called, check) = times.split_at(HOST_CALLS.len() * calls.len());
+        let each = calls.iter().zip(called.chunks(HOST_CALLS.len()));
+        let mut lines: Vec<Line> =
+            each.map(|(call, times)| Line { work: call.name.to_string(), times: times.to_vec() }).collect();
+        let last = lines.pop().expect("the last call reads and checks");
+        let mean_of = |column: usize| lines.iter().map(|line| line.times[column]).sum::<f64>() / lines.len() as f64;
+        Measured {
+            subject: subject.name,
+            facts: subject.facts,
+            mean: (0..HOST_CALLS.len()).map(mean_of).collect(),
+            calls: lines,
+            read_and_check: last.times,
+            check: check.to_vec(),
+        }
     }
 }
 
-/// All candidates give the same number and leave the same output; then they are timed.
-fn measure_call(settings: &Settings, call: &Call) -> Vec<f64> {
+/// All candidates give the same number and leave the same output; then a run for each.
+fn call_runs<'a>(settings: &Settings, call: &'a Call) -> Vec<Run<'a>> {
     let answered = HOST_CALLS.map(|host_call| {
         let mut output = vec![0x5a; LONGEST_IMAGE];
         (host_call(call.image, &call.ticket, &mut output), output)
@@ -45,8 +68,7 @@ fn measure_call(settings: &Settings, call: &Call) -> Vec<f64> {
     assert!(answered.iter().all(|other| *other == answered[0]), "{} differs", call.name);
     assert_eq!(answered[0].0 as u16, call.number, "{}", call.name);
     let run = |host_call| repeated(settings.slice, called(host_call, call));
-    let mut runs: Vec<Run> = HOST_CALLS.into_iter().map(run).collect();
-    medians(settings.slices, &mut runs)
+    HOST_CALLS.into_iter().map(run).collect()
 }
 
 fn called<'a>(host_call: HostCall, call: &'a Call) -> impl FnMut() -> u64 + 'a {
@@ -54,9 +76,7 @@ fn called<'a>(host_call: HostCall, call: &'a Call) -> impl FnMut() -> u64 + 'a {
     move || host_call(call.image, &call.ticket, &mut output)
 }
 
-fn measure_check(settings: &Settings, table: &[u32]) -> Vec<f64> {
+fn check_runs<'a>(settings: &Settings, table: &'a [u32]) -> Vec<Run<'a>> {
     assert!(CHECKS.iter().all(|check| check(table) == 0));
-    let run = |check: fn(&[u32]) -> u8| repeated(settings.slice, move || check(table));
-    let mut runs: Vec<Run> = CHECKS.into_iter().map(run).collect();
-    medians(settings.slices, &mut runs)
+    CHECKS.into_iter().map(|check| repeated(settings.slice, move || check(table))).collect()
 }

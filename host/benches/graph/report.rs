@@ -20,14 +20,15 @@ pub struct Report {
 /// Measures everything once.
 pub fn measure(settings: &Settings) -> Report {
     let mut text = head(settings);
-    let paper = host_calls::measure(settings, &Subject::paper());
-    let plants: Vec<host_calls::Measured> =
-        SIZES.iter().map(|facts| host_calls::measure(settings, &Subject::plant(*facts))).collect();
-    text += &host_calls_part(&paper, &plants);
+    let subjects: Vec<Subject> = std::iter::once(Subject::paper()).chain(SIZES.map(Subject::plant)).collect();
+    let graphs = host_calls::measure(settings, &subjects);
+    let plants = &graphs[1..];
+    text += &host_calls_part(&graphs);
+    text += &checks_part(&graphs);
     let means: Vec<Vec<f64>> = plants.iter().map(|measured| measured.mean.clone()).collect();
     let sizes: Vec<usize> = plants.iter().map(|measured| measured.facts).collect();
     let curves = Curve::each(&sizes, &means);
-    text += &growth_part(&curves, &plants);
+    text += &growth_part(&curves, plants);
     text += &programs_part(settings);
     text += &sqlite_part(settings);
     Report { text, picture: picture("One host call, mean of five tickets", &curves) }
@@ -48,29 +49,27 @@ fn head(settings: &Settings) -> String {
     )
 }
 
-fn host_calls_part(paper: &host_calls::Measured, plants: &[host_calls::Measured]) -> String {
-    let mut text = String::from(
+fn host_calls_part(graphs: &[host_calls::Measured]) -> String {
+    let text = String::from(
         "\n## The host call\n\nAn image is read and checked, a ticket applied, the new image written. The tickets: a new \
          individual in a class, which\nleaves the graph with the facts stated; the same again; an unused byte that is not 0 \
          (7); a class link that closes\na circle (10); the deletion of an individual.\n\n",
     );
     let mut lines = Vec::new();
-    for measured in std::iter::once(paper).chain(plants) {
+    for measured in graphs {
         let graph = format!("{}, {} facts", measured.subject, measured.facts);
         let each = measured.calls.iter().map(|line| Line { work: format!("{graph}: {}", line.work), ..line.clone() });
         lines.extend(each);
         lines.push(Line { work: format!("{graph}: mean of the five"), times: measured.mean.clone() });
     }
-    text += &table("host call", Unit::Microseconds, &lines);
-    text + &checks_part(paper, plants)
+    text + &table("host call", Unit::Microseconds, &lines)
 }
 
-fn checks_part(paper: &host_calls::Measured, plants: &[host_calls::Measured]) -> String {
-    let all = || std::iter::once(paper).chain(plants);
+fn checks_part(graphs: &[host_calls::Measured]) -> String {
     let graph = |measured: &host_calls::Measured| format!("{}, {} facts", measured.subject, measured.facts);
-    let read: Vec<Line> = all().map(|m| Line { work: graph(m), times: m.read_and_check.clone() }).collect();
+    let read: Vec<Line> = graphs.iter().map(|m| Line { work: graph(m), times: m.read_and_check.clone() }).collect();
     let beside = |m: &host_calls::Measured| [vec![m.read_and_check[0]], m.check.clone()].concat();
-    let alone: Vec<Line> = all().map(|m| Line { work: graph(m), times: beside(m) }).collect();
+    let alone: Vec<Line> = graphs.iter().map(|m| Line { work: graph(m), times: beside(m) }).collect();
     format!(
         "\n## Read and check\n\nThe host call with an empty ticket reads the image and checks the graph before it refuses \
          (4).\n\n{}\nThe same call of the proved library, whose check does not cross the C interface by itself, beside the \

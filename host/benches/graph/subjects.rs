@@ -79,22 +79,19 @@ impl Subject {
         Subject { name, facts: table.count_facts(), open, image: table.image(), table: words, tickets }
     }
 
-    /// The five calls whose mean is reported.
-    pub fn calls(&self) -> [Call<'_>; 5] {
+    /// The five calls whose mean is reported, and one that reads and checks the image before the ticket is refused for
+    /// its length.
+    pub fn calls(&self) -> Vec<Call<'_>> {
         let [operation, kind, a, b, _] = self.tickets.repeat;
         let bad_form = [operation, kind, a, b, 7];
-        [
+        vec![
             call("insertion", &self.open, &self.tickets.insertion, 0),
             call("repeat", &self.image, &self.tickets.repeat, 0),
             call("bad form", &self.image, &bad_form, 7),
             call("clash", &self.image, &self.tickets.clash, 10),
             call("deletion", &self.image, &self.tickets.deletion, 0),
+            call("read and check", &self.image, &[], 4),
         ]
-    }
-
-    /// The image is read and checked; then the ticket is refused for its length.
-    pub fn read_and_check(&self) -> Call<'_> {
-        call("read and check", &self.image, &[], 4)
     }
 }
 
