@@ -1,5 +1,5 @@
-//! Medians of interleaved repetitions: within each repetition every candidate is run once, and each repetition starts with
-//! another one, so that a disturbance of the machine meets all alike.
+//! Interleaved repetitions: within each repetition every candidate is run once, and each repetition starts with another
+//! one, so that a disturbance of the machine meets all alike.
 
 use std::hint::black_box;
 use std::time::{Duration, Instant};
@@ -7,8 +7,11 @@ use std::time::{Duration, Instant};
 /// A candidate's single run, which answers the nanoseconds of one piece of its work.
 pub type Run<'a> = Box<dyn FnMut() -> f64 + 'a>;
 
-/// The median of each candidate's runs.
-pub fn medians(repetitions: usize, runs: &mut [Run]) -> Vec<f64> {
+/// What the runs of one candidate took, by repetition.
+pub type Readings = Vec<f64>;
+
+/// The readings of each run.
+pub fn interleaved(repetitions: usize, runs: &mut [Run]) -> Vec<Readings> {
     let mut readings = vec![Vec::new(); runs.len()];
     for repetition in 0..repetitions {
         for turn in 0..runs.len() {
@@ -16,10 +19,10 @@ pub fn medians(repetitions: usize, runs: &mut [Run]) -> Vec<f64> {
             readings[candidate].push(runs[candidate]());
         }
     }
-    readings.into_iter().map(median).collect()
+    readings
 }
 
-fn median(mut readings: Vec<f64>) -> f64 {
+pub fn median(mut readings: Readings) -> f64 {
     readings.sort_by(f64::total_cmp);
     let middle = readings.len() / 2;
     match readings.len() % 2 {

@@ -1,7 +1,7 @@
 //! The host call on images, and the check.
 
 use crate::candidates::{HostCall, CHECKS, HOST_CALLS};
-use crate::clock::{medians, repeated, Run};
+use crate::clock::{interleaved, repeated, Readings, Run};
 use crate::rivals::contents::LONGEST_IMAGE;
 use crate::settings::Settings;
 use crate::subjects::{Call, Subject};
@@ -13,10 +13,10 @@ pub struct Measured {
     pub facts: usize,
     /// A line for each ticket, and one for their mean.
     pub calls: Vec<Line>,
-    pub mean: Vec<f64>,
-    pub read_and_check: Vec<f64>,
-    /// Of the rivals alone.
-    pub check: Vec<f64>,
+    pub mean: Line,
+    pub read_and_check: Line,
+    /// The proved call that reads and checks, beside the rivals' checks alone.
+    pub check: Line,
 }
 
 /// Measures all calls on all graphs, each once within every repetition.
@@ -27,8 +27,8 @@ pub fn measure(settings: &Settings, subjects: &[Subject]) -> Vec<Measured> {
         runs.extend(calls.iter().flat_map(|call| call_runs(settings, call)));
         runs.extend(check_runs(settings, &subject.table));
     }
-    let times = medians(settings.slices, &mut runs);
-    let mut rest = times.as_slice();
+    let readings = interleaved(settings.slices, &mut runs);
+    let mut rest = readings.as_slice();
     let mut measured = Vec::new();
     for (subject, calls) in subjects.iter().zip(&calls) {
         let (own, after) = rest.split_at(HOST_CALLS.len() * calls.len() + CHECKS.len());
@@ -39,23 +39,20 @@ pub fn measure(settings: &Settings, subjects: &[Subject]) -> Vec<Measured> {
 }
 
 impl Measured {
-    /// Sorts the times of one graph: each call's by candidate, the last call being that which reads and checks; then
+    /// Sorts the readings of one graph: each call's by candidate, the last call being that which reads and checks; then
     /// those of the checks.
-    fn of(subject: &Subject, calls: &[Call], times: &[f64]) -> Measured {
-        let (called, check) = times.split_at(HOST_CALLS.len() * calls.len());
+    fn of(subject: &Subject, calls: &[Call], readings: &[Readings]) -> Measured {
+        let Subject { name: subject, facts, .. } = *subject;
+        let graph = format!("{subject}, {facts} facts");
+        let (called, checked) = readings.split_at(HOST_CALLS.len() * calls.len());
         let each = calls.iter().zip(called.chunks(HOST_CALLS.len()));
-        let mut lines: Vec<Line> =
-            each.map(|(call, times)| Line { work: call.name.to_string(), times: times.to_vec() }).collect();
-        let last = lines.pop().expect("the last call reads and checks");
-        let mean_of = |column: usize| lines.iter().map(|line| line.times[column]).sum::<f64>() / lines.len() as f64;
-        Measured {
-            subject: subject.name,
-            facts: subject.facts,
-            mean: (0..HOST_CALLS.len()).map(mean_of).collect(),
-            calls: lines,
-            read_and_check: last.times,
-            check: check.to_vec(),
-        }
+        let mut calls: Vec<Line> =
+            each.map(|(call, own)| Line { work: format!("{graph}: {}", call.name), readings: own.to_vec() }).collect();
+        let mut read_and_check = calls.pop().expect("the last call reads and checks");
+        read_and_check.work = graph.clone();
+        let beside = [&read_and_check.readings[..1], checked].concat();
+        let mean = Line::mean(format!("{graph}: mean of the five"), &calls);
+        Measured { subject, facts, calls, mean, read_and_check, check: Line { work: graph, readings: beside } }
     }
 }
 

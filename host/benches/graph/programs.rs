@@ -1,7 +1,7 @@
 //! Program one on long lists, as processes that read a file.
 
 use crate::candidates::{program_one, NAMES};
-use crate::clock::{medians, Run};
+use crate::clock::{interleaved, Readings, Run};
 use crate::settings::Settings;
 use crate::tables::Line;
 use std::fs::{self, File};
@@ -32,16 +32,16 @@ pub fn measure(settings: &Settings, name: &str, list: &[u8]) -> Measured {
     assert!(printed.iter().all(|other| *other == printed[0]), "the outputs on {name} differ");
     let accepted = printed[0].split(|byte| *byte == b'\n').filter(|line| line.starts_with(b"0 ")).count();
     let tickets = list.len().div_ceil(TICKET_LENGTH);
-    let times = time_processes(settings, &path);
-    let line = Line { work: name.to_string(), times: times.iter().map(|time| time / tickets as f64).collect() };
-    Measured { tickets, accepted, line }
+    let mut readings = time_processes(settings, &path);
+    readings.iter_mut().flatten().for_each(|time| *time /= tickets as f64);
+    Measured { tickets, accepted, line: Line { work: name.to_string(), readings } }
 }
 
 /// What a process takes that has no tickets to run.
 pub fn measure_start(settings: &Settings) -> Line {
     let path = file_of("empty list");
     fs::write(&path, []).expect("the target folder takes a file");
-    Line { work: "start of the process".to_string(), times: time_processes(settings, &path) }
+    Line { work: "start of the process".to_string(), readings: time_processes(settings, &path) }
 }
 
 fn output_of(candidate: &str, path: &Path) -> Vec<u8> {
@@ -51,9 +51,9 @@ fn output_of(candidate: &str, path: &Path) -> Vec<u8> {
     output.stdout
 }
 
-fn time_processes(settings: &Settings, path: &Path) -> Vec<f64> {
+fn time_processes(settings: &Settings, path: &Path) -> Vec<Readings> {
     let mut runs: Vec<Run> = NAMES.into_iter().map(|candidate| timed(candidate, path)).collect();
-    medians(settings.processes, &mut runs)
+    interleaved(settings.processes, &mut runs)
 }
 
 fn timed<'a>(candidate: &'a str, path: &'a Path) -> Run<'a> {

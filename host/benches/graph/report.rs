@@ -25,9 +25,7 @@ pub fn measure(settings: &Settings) -> Report {
     let plants = &graphs[1..];
     text += &host_calls_part(&graphs);
     text += &checks_part(&graphs);
-    let means: Vec<Vec<f64>> = plants.iter().map(|measured| measured.mean.clone()).collect();
-    let sizes: Vec<usize> = plants.iter().map(|measured| measured.facts).collect();
-    let curves = Curve::each(&sizes, &means);
+    let curves = curves_of(plants, |measured| &measured.mean);
     text += &growth_part(&curves, plants);
     text += &programs_part(settings);
     text += &sqlite_part(settings);
@@ -42,10 +40,10 @@ fn head(settings: &Settings) -> String {
     format!(
         "# Benchmark\n\nWritten by `cargo bench --offline -- --write` in `host/`. Processor: {model}. Times are medians by \
          the wall clock,\nof {slices} readings of a host call (each {slice:?} of calls) and {processes} of a process. The \
-         candidates take turns within each\nrepetition, and each repetition starts with another one. All answers, outputs \
-         and tables are compared in the run.\n\n- `proved`: the library behind the C interface, and program one.\n- \
-         `sorted`: plain safe Rust, the words sorted in a `Vec` and searched.\n- `bit rows`: plain safe Rust, sets of 256 \
-         bits, written for speed.\n"
+         candidates take turns within each\nrepetition, and each repetition starts with another one; a ratio is the median \
+         of the repetitions' ratios. All answers,\noutputs and tables are compared in the run.\n\n- `proved`: the library \
+         behind the C interface, and program one.\n- `sorted`: plain safe Rust, the words sorted in a `Vec` and \
+         searched.\n- `bit rows`: plain safe Rust, sets of 256 bits, written for speed.\n"
     )
 }
 
@@ -57,19 +55,15 @@ fn host_calls_part(graphs: &[host_calls::Measured]) -> String {
     );
     let mut lines = Vec::new();
     for measured in graphs {
-        let graph = format!("{}, {} facts", measured.subject, measured.facts);
-        let each = measured.calls.iter().map(|line| Line { work: format!("{graph}: {}", line.work), ..line.clone() });
-        lines.extend(each);
-        lines.push(Line { work: format!("{graph}: mean of the five"), times: measured.mean.clone() });
+        lines.extend(measured.calls.iter().cloned());
+        lines.push(measured.mean.clone());
     }
     text + &table("host call", Unit::Microseconds, &lines)
 }
 
 fn checks_part(graphs: &[host_calls::Measured]) -> String {
-    let graph = |measured: &host_calls::Measured| format!("{}, {} facts", measured.subject, measured.facts);
-    let read: Vec<Line> = graphs.iter().map(|m| Line { work: graph(m), times: m.read_and_check.clone() }).collect();
-    let beside = |m: &host_calls::Measured| [vec![m.read_and_check[0]], m.check.clone()].concat();
-    let alone: Vec<Line> = graphs.iter().map(|m| Line { work: graph(m), times: beside(m) }).collect();
+    let read: Vec<Line> = graphs.iter().map(|measured| measured.read_and_check.clone()).collect();
+    let alone: Vec<Line> = graphs.iter().map(|measured| measured.check.clone()).collect();
     format!(
         "\n## Read and check\n\nThe host call with an empty ticket reads the image and checks the graph before it refuses \
          (4).\n\n{}\nThe same call of the proved library, whose check does not cross the C interface by itself, beside the \
@@ -79,20 +73,26 @@ fn checks_part(graphs: &[host_calls::Measured]) -> String {
     )
 }
 
+/// The curves of one line of each graph.
+fn curves_of(graphs: &[host_calls::Measured], line_of: fn(&host_calls::Measured) -> &Line) -> Vec<Curve> {
+    let sizes: Vec<usize> = graphs.iter().map(|measured| measured.facts).collect();
+    let times: Vec<Vec<f64>> = graphs.iter().map(|measured| line_of(measured).times()).collect();
+    Curve::each(&sizes, &times)
+}
+
 fn growth_part(curves: &[Curve], plants: &[host_calls::Measured]) -> String {
-    let checks: Vec<Vec<f64>> = plants.iter().map(|measured| measured.read_and_check.clone()).collect();
-    let sizes: Vec<usize> = plants.iter().map(|measured| measured.facts).collect();
+    let checks = curves_of(plants, |measured| &measured.read_and_check);
     let row = |work: &str, curves: &[Curve]| {
         let exponents = curves.iter().map(|curve| format!("{:.2}", curve.exponent()));
         std::iter::once(work.to_string()).chain(exponents).collect::<Vec<_>>()
     };
     let heads = std::iter::once("exponent").chain(NAMES).map(String::from).collect();
-    let rows = [heads, row("mean of the five tickets", curves), row("read and check", &Curve::each(&sizes, &checks))];
+    let rows = [heads, row("mean of the five tickets", curves), row("read and check", &checks)];
     format!(
         "\n## Growth\n\nThe exponent of the time over the number of facts, {} to {}: least squares of the \
          logarithms.\n\n{}\n![Growth of the host call](growth.svg)\n",
-        sizes[0],
-        sizes[sizes.len() - 1],
+        plants[0].facts,
+        plants[plants.len() - 1].facts,
         laid_out(&rows)
     )
 }

@@ -1,12 +1,39 @@
 //! Tables of times, as Markdown.
 
 use crate::candidates::NAMES;
+use crate::clock::{median, Readings};
 
-/// One piece of work and what it takes each candidate, in nanoseconds.
+/// One piece of work and what it took each candidate, in nanoseconds, repetition by repetition.
 #[derive(Clone)]
 pub struct Line {
     pub work: String,
-    pub times: Vec<f64>,
+    pub readings: Vec<Readings>,
+}
+
+impl Line {
+    /// The median of each candidate.
+    pub fn times(&self) -> Vec<f64> {
+        self.readings.iter().cloned().map(median).collect()
+    }
+
+    /// For each rival the median of the ratios of the proved one's reading to its own in the same repetition.
+    fn ratios(&self) -> Vec<f64> {
+        let ratio = |rival: &Readings| median(self.readings[0].iter().zip(rival).map(|(own, its)| own / its).collect());
+        self.readings[1..].iter().map(ratio).collect()
+    }
+
+    /// The mean of several lines, in each repetition.
+    pub fn mean(work: String, lines: &[Line]) -> Line {
+        let count = lines.len() as f64;
+        let mean_at = |candidate: usize, repetition: usize| {
+            lines.iter().map(|line| line.readings[candidate][repetition]).sum::<f64>() / count
+        };
+        let each = |candidate: usize| {
+            let repetitions = 0..lines[0].readings[candidate].len();
+            repetitions.map(|repetition| mean_at(candidate, repetition)).collect()
+        };
+        Line { work, readings: (0..lines[0].readings.len()).map(each).collect() }
+    }
 }
 
 /// How a table shows its times.
@@ -28,8 +55,8 @@ pub fn table(first: &str, unit: Unit, lines: &[Line]) -> String {
 
 fn cells(unit: Unit, line: &Line) -> Vec<String> {
     let mut cells = vec![line.work.clone()];
-    cells.extend(line.times.iter().map(|time| shown(unit, *time)));
-    cells.extend(line.times[1..].iter().map(|time| format!("{:.2}", line.times[0] / time)));
+    cells.extend(line.times().iter().map(|time| shown(unit, *time)));
+    cells.extend(line.ratios().iter().map(|ratio| format!("{ratio:.2}")));
     cells
 }
 
