@@ -143,6 +143,39 @@ fn program_one_on_random_lists() {
     }
 }
 
+/// A ticket about links between four classes and five properties, or a value.
+fn link_ticket(random: &mut Random) -> [u8; 5] {
+    let class = 2 + random.below(4) as u8;
+    let other = random.pick(&[0, 2, 3, 4, 5]);
+    let (p, q) = (20 + random.below(5) as u8, 20 + random.below(5) as u8);
+    match random.below(10) {
+        0 | 1 => [1, 2, p, class, other],
+        2 => [1, 2, p, other, random.pick(&[1, 2, 3, 4, 5])],
+        3 | 4 => [1, 5, class, other, 0],
+        5 | 6 => [1, 6, p, q, 0],
+        7 => [2, 5, class, other, 0],
+        8 => [2, 6, p, q, 0],
+        _ => [1, 10, 30 + random.below(2) as u8, 31, p],
+    }
+}
+
+/// A property under another needs class links for the domains and the ranges: they may close a circle together though
+/// neither does alone, and with one of them the link between the properties goes.
+#[test]
+fn program_one_on_links() {
+    let mut random = Random::for_test("rivals_on_links");
+    for _ in 0..rounds(400) {
+        let tickets: Vec<[u8; 5]> = (0..40).map(|_| link_ticket(&mut random)).collect();
+        same_program(&tickets.concat());
+    }
+    for [low, high, from, to] in [[2, 3, 3, 2], [2, 3, 4, 5], [2, 3, 4, 2], [2, 3, 3, 5]] {
+        let links = [[1, 5, 3, 4, 0], [1, 5, 5, 2, 0]];
+        let properties = [[1, 2, 20, low, from], [1, 2, 21, high, to]];
+        let list = [links, properties].concat().concat();
+        same_program(&[list, vec![1, 6, 20, 21, 0]].concat());
+    }
+}
+
 /// Members of a deep tree until no more fits, then tickets of all sorts.
 #[test]
 fn program_one_on_full_tables() {

@@ -12,8 +12,8 @@ pub fn mostly_bad(count: usize) -> Vec<u8> {
     tickets.collect::<Vec<Bytes>>().concat()
 }
 
-/// Plants that fill a table of 2,048 words, each taken down again by deletions, the last ticket first. Every second one is
-/// drawn in any order that puts the properties first.
+/// Plants that fill a table of 2,048 words, each taken down again by deletions, the last ticket first. Every second one
+/// is in any order that puts the properties first.
 pub fn plants(count: usize) -> Vec<u8> {
     plants_with(count, |tickets| [taken_down(tickets), cleared(tickets)].concat())
 }

@@ -1,5 +1,5 @@
-//! The benchmark: the proved implementation beside two rivals and SQLite, in one run. `--quick` measures little, `--write`
-//! writes the report to docs/, `--program NAME` is a rival's program one.
+//! The benchmark: the proved implementation beside two rivals and SQLite, in one run. `--quick` measures little,
+//! `--write` writes the report to docs/, `--program NAME` is a rival's program one.
 
 mod candidates;
 mod clock;

@@ -38,20 +38,22 @@ fn head(settings: &Settings) -> String {
     let model = model.trim_start_matches([' ', '\t', ':']);
     let Settings { slices, processes, slice, .. } = settings;
     format!(
-        "# Benchmark\n\nWritten by `cargo bench --offline -- --write` in `host/`. Processor: {model}. Times are medians by \
-         the wall clock,\nof {slices} readings of a host call (each {slice:?} of calls) and {processes} of a process. The \
-         candidates take turns within each\nrepetition, and each repetition starts with another one; a ratio is the median \
-         of the repetitions' ratios. All answers,\noutputs and tables are compared in the run.\n\n- `proved`: the library \
-         behind the C interface, and program one.\n- `sorted`: plain safe Rust, the words sorted in a `Vec` and \
-         searched.\n- `bit rows`: plain safe Rust, sets of 256 bits, written for speed.\n"
+        "# Benchmark\n\nWritten by `cargo bench --offline -- --write` in `host/`. Processor: {model}. Times are \
+         medians by the wall clock,\nof {slices} readings of a host call (each {slice:?} of calls) and \
+         {processes} of a process. The candidates take turns within each\nrepetition, and each repetition \
+         starts with another one; a ratio is the median of the repetitions' ratios. All answers,\noutputs and \
+         tables are compared in the run.\n\n- `proved`: the library behind the C interface, and program one.\n- \
+         `sorted`: plain safe Rust, the words sorted in a `Vec` and searched.\n- `bit rows`: plain safe Rust, \
+         sets of 256 bits, written for speed.\n"
     )
 }
 
 fn host_calls_part(graphs: &[host_calls::Measured]) -> String {
     let text = String::from(
-        "\n## The host call\n\nAn image is read and checked, a ticket applied, the new image written. The tickets: a new \
-         individual in a class, which\nleaves the graph with the facts stated; the same again; an unused byte that is not 0 \
-         (7); a class link that closes\na circle (10); the deletion of an individual.\n\n",
+        "\n## The host call\n\nAn image is read and checked, a ticket applied, the new image written. The \
+         tickets: a new individual in a class, which\nleaves the graph with the facts stated; the same again; \
+         an unused byte that is not 0 (7); a class link that closes\na circle (10); the deletion of an \
+         individual.\n\n",
     );
     let mut lines = Vec::new();
     for measured in graphs {
@@ -65,9 +67,9 @@ fn checks_part(graphs: &[host_calls::Measured]) -> String {
     let read: Vec<Line> = graphs.iter().map(|measured| measured.read_and_check.clone()).collect();
     let alone: Vec<Line> = graphs.iter().map(|measured| measured.check.clone()).collect();
     format!(
-        "\n## Read and check\n\nThe host call with an empty ticket reads the image and checks the graph before it refuses \
-         (4).\n\n{}\nThe same call of the proved library, whose check does not cross the C interface by itself, beside the \
-         rivals' check of\na table alone, for which they read no image.\n\n{}",
+        "\n## Read and check\n\nThe host call with an empty ticket reads the image and checks the graph before \
+         it refuses (4).\n\n{}\nThe same call of the proved library, whose check does not cross the C interface \
+         by itself, beside the rivals' check of\na table alone, for which they read no image.\n\n{}",
         table("read and check", Unit::Microseconds, &read),
         table("rivals: check alone", Unit::Microseconds, &alone)
     )
@@ -109,11 +111,11 @@ fn programs_part(settings: &Settings) -> String {
     rows.extend(measured.iter().map(|m| vec![m.line.work.clone(), m.tickets.to_string(), m.accepted.to_string()]));
     let lines: Vec<Line> = measured.into_iter().map(|m| m.line).collect();
     format!(
-        "\n## Program one\n\nAs a process that reads a file; its output is thrown away while the clock runs. `mostly bad`: \
-         kinds 1 to 10 and ids 0 to 31\ndrawn freely. `plants`: plants that fill a table of 2,048 words, each taken down \
-         ticket by ticket. `plants, filled`: the\nsame, but cleared by deleting each id. `dense`: insertions and deletions \
-         among 31 ids.\n\n{}\nTime for one ticket:\n\n{}\nTime to start and end without tickets, which is within the times \
-         above:\n\n{}",
+        "\n## Program one\n\nAs a process that reads a file; its output is thrown away while the clock runs. \
+         `mostly bad`: kinds 1 to 10 and ids 0 to 31\ndrawn freely. `plants`: plants that fill a table of 2,048 \
+         words, each taken down ticket by ticket. `plants, filled`: the\nsame, but cleared by deleting each id. \
+         `dense`: insertions and deletions among 31 ids.\n\n{}\nTime for one ticket:\n\n{}\nTime to start and \
+         end without tickets, which is within the times above:\n\n{}",
         laid_out(&rows),
         table("list", Unit::Nanoseconds, &lines),
         table("process", Unit::Microseconds, &[programs::measure_start(settings)])
@@ -136,10 +138,10 @@ fn sqlite_part(settings: &Settings) -> String {
         rows.push(vec![name.to_string(), m.tickets.to_string(), m.facts.to_string(), time]);
     }
     format!(
-        "{head}A smaller piece of work than program one's: insertions of good form only, by triggers that carry the side \
-         effects, in\none transaction on a database in memory, through the command `sqlite3`. No deletion, no bound of 2,048 \
-         facts, no answers\nprinted. The table at the end is the same. Least of three runs, the start of the process \
-         taken off.\n\n{}",
+        "{head}A smaller piece of work than program one's: insertions of good form only, by triggers that carry \
+         the side effects, in\none transaction on a database in memory, through the command `sqlite3`. No \
+         deletion, no bound of 2,048 facts, no answers\nprinted. Each ticket is a statement of its own. The table at the end is the same. Least of \
+         three runs, the start of the process taken off.\n\n{}",
         laid_out(&rows)
     )
 }

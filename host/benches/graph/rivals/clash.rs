@@ -1,5 +1,5 @@
-//! Refusals 9 and 10 by lookups. On a consistent table no chain of side effects has to be followed to find a clash: what
-//! an asked fact brings with it can only clash in the ways below.
+//! Refusals 9 and 10 by lookups. On a consistent table no chain of side effects has to be followed to find a clash:
+//! what an asked fact brings with it can only clash in the ways below.
 
 use super::fact::*;
 use super::form::Ticket;

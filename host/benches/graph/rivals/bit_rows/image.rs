@@ -91,8 +91,8 @@ fn push_rows(rows: &Rows, of: usize, firsts: Set, bodies: &mut Vec<u8>) {
     }
 }
 
-/// All values, by subject, by value and then by property: the rows of a subject are turned into the properties of each of
-/// its values.
+/// All values, by subject, by value and then by property: the rows of a subject are turned into the properties of each
+/// of its values.
 fn push_values(rows: &Rows, bodies: &mut Vec<u8>) {
     let mut properties = [Set::EMPTY; 256];
     let valued = rows.sort(PROPERTY);
