@@ -135,6 +135,28 @@ fn checks_of_disturbed_tables() {
     assert_eq!([same_check(&[]), same_check(&[0; 2049]), same_check(&[0; 2048])], [1, 1, 3]);
 }
 
+/// Graphs of links and values with any one fact left out, and with any one domain or range exchanged.
+#[test]
+fn checks_of_tables_with_one_change() {
+    let mut random = Random::for_test("rivals_check_one_change");
+    for _ in 0..rounds(60) {
+        let tickets: Vec<[u8; 5]> = (0..30).map(|_| link_ticket(&mut random)).collect();
+        let (_, words) = programs::run_tickets(&tickets.concat());
+        for place in 0..words.len() {
+            let [kind, a, ..] = words[place].to_be_bytes();
+            let mut changed = words.clone();
+            changed.remove(place);
+            same_check(&changed);
+            let ends: &[u8] = if kind == 7 || kind == 8 { &[0, 1, 2, 3, 4, 5] } else { &[] };
+            for end in ends {
+                changed = words.clone();
+                changed[place] = u32::from_be_bytes([kind, a, *end, 0]);
+                same_check(&changed);
+            }
+        }
+    }
+}
+
 #[test]
 fn program_one_on_random_lists() {
     let mut random = Random::for_test("rivals_on_random_lists");
