@@ -9,7 +9,6 @@ use crate::tables::Line;
 
 /// What was measured on one graph.
 pub struct Measured {
-    pub subject: &'static str,
     pub facts: usize,
     /// A line for each ticket, and one for their mean.
     pub calls: Vec<Line>,
@@ -42,8 +41,8 @@ impl Measured {
     /// Sorts the readings of one graph: each call's by candidate, the last call being that which reads and checks; then
     /// those of the checks.
     fn of(subject: &Subject, calls: &[Call], readings: &[Readings]) -> Measured {
-        let Subject { name: subject, facts, .. } = *subject;
-        let graph = format!("{subject}, {facts} facts");
+        let facts = subject.facts;
+        let graph = format!("{}, {facts} facts", subject.name);
         let (called, checked) = readings.split_at(HOST_CALLS.len() * calls.len());
         let each = calls.iter().zip(called.chunks(HOST_CALLS.len()));
         let mut calls: Vec<Line> =
@@ -52,7 +51,7 @@ impl Measured {
         read_and_check.work = graph.clone();
         let beside = [&read_and_check.readings[..1], checked].concat();
         let mean = Line::mean(format!("{graph}: mean of the five"), &calls);
-        Measured { subject, facts, calls, mean, read_and_check, check: Line { work: graph, readings: beside } }
+        Measured { facts, calls, mean, read_and_check, check: Line { work: graph, readings: beside } }
     }
 }
 

@@ -15,7 +15,7 @@ const TICKET_LENGTH: usize = 5;
 pub struct Measured {
     pub tickets: usize,
     pub accepted: usize,
-    /// Nanoseconds a ticket.
+    /// Nanoseconds a ticket, or of the whole process where there is none.
     pub line: Line,
 }
 
@@ -24,24 +24,39 @@ pub fn file_of(name: &str) -> PathBuf {
     Path::new(env!("CARGO_TARGET_TMPDIR")).join(name.replace(' ', "-"))
 }
 
-/// All programs print the same; then they are timed, their output thrown away.
-pub fn measure(settings: &Settings, name: &str, list: &[u8]) -> Measured {
-    let path = file_of(name);
-    fs::write(&path, list).expect("the target folder takes a file");
-    let printed = NAMES.map(|candidate| output_of(candidate, &path));
-    assert!(printed.iter().all(|other| *other == printed[0]), "the outputs on {name} differ");
-    let accepted = printed[0].split(|byte| *byte == b'\n').filter(|line| line.starts_with(b"0 ")).count();
-    let tickets = list.len().div_ceil(TICKET_LENGTH);
-    let mut readings = time_processes(settings, &path);
-    readings.iter_mut().flatten().for_each(|time| *time /= tickets as f64);
-    Measured { tickets, accepted, line: Line { work: name.to_string(), readings } }
+/// All programs print the same on each list; then they are timed, their output thrown away, each once on each list
+/// within every repetition.
+pub fn measure(settings: &Settings, lists: &[(&str, Vec<u8>)]) -> Vec<Measured> {
+    let paths: Vec<PathBuf> = lists.iter().map(|(name, list)| written(name, list)).collect();
+    let accepted: Vec<usize> = paths.iter().map(|path| count_accepted(path)).collect();
+    let each = paths.iter().flat_map(|path| NAMES.map(|candidate| timed(candidate, path)));
+    let readings = interleaved(settings.processes, &mut each.collect::<Vec<Run>>());
+    let own = readings.chunks(NAMES.len()).zip(accepted);
+    lists.iter().zip(own).map(|((name, list), (own, accepted))| Measured::of(name, list, accepted, own)).collect()
 }
 
-/// What a process takes that has no tickets to run.
-pub fn measure_start(settings: &Settings) -> Line {
-    let path = file_of("empty list");
-    fs::write(&path, []).expect("the target folder takes a file");
-    Line { work: "start of the process".to_string(), readings: time_processes(settings, &path) }
+impl Measured {
+    fn of(name: &str, list: &[u8], accepted: usize, readings: &[Readings]) -> Measured {
+        let tickets = list.len().div_ceil(TICKET_LENGTH);
+        let pieces = tickets.max(1) as f64;
+        let share = |own: &Readings| own.iter().map(|time| time / pieces).collect();
+        let line = Line { work: name.to_string(), readings: readings.iter().map(share).collect() };
+        Measured { tickets, accepted, line }
+    }
+}
+
+/// Writes a list to its file.
+fn written(name: &str, list: &[u8]) -> PathBuf {
+    let path = file_of(name);
+    fs::write(&path, list).expect("the target folder takes a file");
+    path
+}
+
+/// How many tickets of a list are accepted, if all programs print the same.
+fn count_accepted(path: &Path) -> usize {
+    let printed = NAMES.map(|candidate| output_of(candidate, path));
+    assert!(printed.iter().all(|other| *other == printed[0]), "the outputs on {} differ", path.display());
+    printed[0].split(|byte| *byte == b'\n').filter(|line| line.starts_with(b"0 ")).count()
 }
 
 fn output_of(candidate: &str, path: &Path) -> Vec<u8> {
@@ -49,11 +64,6 @@ fn output_of(candidate: &str, path: &Path) -> Vec<u8> {
     let output = program_one(candidate).stdin(input).stderr(Stdio::inherit()).output().expect("the program starts");
     assert!(output.status.success(), "{candidate}: {:?}", output.status);
     output.stdout
-}
-
-fn time_processes(settings: &Settings, path: &Path) -> Vec<Readings> {
-    let mut runs: Vec<Run> = NAMES.into_iter().map(|candidate| timed(candidate, path)).collect();
-    interleaved(settings.processes, &mut runs)
 }
 
 fn timed<'a>(candidate: &'a str, path: &'a Path) -> Run<'a> {
