@@ -1,7 +1,10 @@
 //! Interleaved repetitions: within each repetition every candidate is run once, and each repetition starts with another
 //! one, so that a disturbance of the machine meets all alike.
 
+use std::fs;
 use std::hint::black_box;
+use std::io::Read;
+use std::process::{Command, Stdio};
 use std::time::{Duration, Instant};
 
 /// A candidate's single run, which answers the nanoseconds of one piece of its work.
@@ -48,4 +51,25 @@ pub fn repeated<'a, T>(slice: Duration, mut work: impl FnMut() -> T + 'a) -> Run
         }
         start.elapsed().as_nanos() as f64 / times as f64
     })
+}
+
+/// Runs a process to its end and answers the nanoseconds that it was on a processor, or those by the wall clock where
+/// the system does not tell.
+pub fn processor_time(mut command: Command) -> f64 {
+    let start = Instant::now();
+    let mut child = command.stderr(Stdio::piped()).spawn().expect("the program starts");
+    let mut errors = child.stderr.take().expect("the errors are a pipe");
+    // The pipe ends with the process, which the system knows until it is waited for.
+    errors.read_to_end(&mut Vec::new()).expect("the pipe can be read");
+    let elapsed = start.elapsed().as_nanos() as f64;
+    let told = told_at_end(child.id());
+    assert!(child.wait().expect("the program ends").success());
+    told.unwrap_or(elapsed)
+}
+
+/// The processor's nanoseconds of a process that has ended.
+fn told_at_end(process: u32) -> Option<f64> {
+    while !fs::read_to_string(format!("/proc/{process}/stat")).ok()?.contains(") Z ") {}
+    let times = fs::read_to_string(format!("/proc/{process}/schedstat")).ok()?;
+    times.split(' ').next()?.parse().ok()
 }

@@ -1,13 +1,12 @@
 //! Program one on long lists, as processes that read a file.
 
 use crate::candidates::{program_one, NAMES};
-use crate::clock::{interleaved, Readings, Run};
+use crate::clock::{interleaved, processor_time, Readings, Run};
 use crate::settings::Settings;
 use crate::tables::Line;
 use std::fs::{self, File};
 use std::path::{Path, PathBuf};
 use std::process::Stdio;
-use std::time::Instant;
 
 const TICKET_LENGTH: usize = 5;
 
@@ -71,10 +70,6 @@ fn timed<'a>(candidate: &'a str, path: &'a Path) -> Run<'a> {
         let input = File::open(path).expect("the list is there");
         let mut command = program_one(candidate);
         command.stdin(input).stdout(Stdio::null());
-        let start = Instant::now();
-        let status = command.status().expect("the program starts");
-        let time = start.elapsed().as_nanos() as f64;
-        assert!(status.success());
-        time
+        processor_time(command)
     })
 }

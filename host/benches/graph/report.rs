@@ -39,9 +39,9 @@ fn head(settings: &Settings) -> String {
     let Settings { slices, processes, slice, .. } = settings;
     format!(
         "# Benchmark\n\nWritten by `cargo bench --offline -- --write` in `host/`. Processor: {model}. Times are \
-         medians by the wall clock,\nof {slices} readings of a host call (each {slice:?} of calls) and \
-         {processes} of a process. The candidates take turns within each\nrepetition, and each repetition \
-         starts with another one; a ratio is the median of the repetitions' ratios. All answers,\noutputs and \
+         medians: of {slices} readings of\na host call by the wall clock (each {slice:?} of calls) and {processes} of a \
+         process by its processor time. The candidates take turns\nwithin each repetition, and each repetition \
+         starts with another one; a ratio is the median of the repetitions' ratios.\nAll answers, outputs and \
          tables are compared in the run.\n\n- `proved`: the library behind the C interface, and program one.\n- \
          `sorted`: plain safe Rust, the words sorted in a `Vec` and searched.\n- `bit rows`: plain safe Rust, \
          sets of 256 bits, written for speed.\n"

@@ -89,6 +89,10 @@ impl Rival for BitRows {
         if !asked.inserts {
             return Answer::accepted(0, self.delete(&asked));
         }
+        let is_there = asked.kind != PROPERTY && self.has(asked.kind, asked.a, asked.b, asked.c);
+        if is_there {
+            return Answer::accepted(0, 0);
+        }
         if uses_unknown(self, &asked) {
             return Answer::refused(9);
         }

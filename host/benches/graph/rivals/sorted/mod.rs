@@ -114,6 +114,10 @@ impl Rival for Sorted {
         if !asked.inserts {
             return Answer::accepted(0, self.delete(&asked));
         }
+        let is_there = asked.kind != PROPERTY && has(&self.words, asked.asked());
+        if is_there {
+            return Answer::accepted(0, 0);
+        }
         if uses_unknown(self, &asked) {
             return Answer::refused(9);
         }
