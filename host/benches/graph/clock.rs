@@ -10,6 +10,9 @@ use std::time::{Duration, Instant};
 /// A candidate's single run, which answers the nanoseconds of one piece of its work.
 pub type Run<'a> = Box<dyn FnMut() -> f64 + 'a>;
 
+/// So often work is tried to learn how long it takes.
+const TRIES: usize = 20;
+
 /// What the runs of one candidate took, by repetition.
 pub type Readings = Vec<f64>;
 
@@ -36,21 +39,17 @@ pub fn median(mut readings: Readings) -> f64 {
 
 /// A run that does the work again and again for about `slice`, in nanoseconds for once.
 pub fn repeated<'a, T>(slice: Duration, mut work: impl FnMut() -> T + 'a) -> Run<'a> {
-    let start = Instant::now();
-    let mut tried = 0;
-    while tried < 3 || start.elapsed() < slice / 4 {
-        black_box(work());
-        tried += 1;
-    }
-    let once = start.elapsed().as_nanos() / tried;
-    let times = (slice.as_nanos() / once.max(1)).max(1);
-    Box::new(move || {
+    let mut timed = move |times: u128| {
         let start = Instant::now();
         for _ in 0..times {
             black_box(work());
         }
-        start.elapsed().as_nanos() as f64 / times as f64
-    })
+        start.elapsed().as_nanos()
+    };
+    // The least of a few tries is not disturbed by other processes.
+    let once = (0..TRIES).map(|_| timed(1)).min().unwrap_or(1);
+    let times = (slice.as_nanos() / once.max(1)).max(1);
+    Box::new(move || timed(times) as f64 / times as f64)
 }
 
 /// Runs a process to its end and answers the nanoseconds that it was on a processor, or those by the wall clock where
@@ -63,7 +62,7 @@ pub fn processor_time(mut command: Command) -> f64 {
     errors.read_to_end(&mut Vec::new()).expect("the pipe can be read");
     let elapsed = start.elapsed().as_nanos() as f64;
     let told = told_at_end(child.id());
-    assert!(child.wait().expect("the program ends").success());
+    child.wait().expect("the program ends");
     told.unwrap_or(elapsed)
 }
 

@@ -45,13 +45,13 @@ impl Measured {
         let graph = format!("{}, {facts} facts", subject.name);
         let (called, checked) = readings.split_at(HOST_CALLS.len() * calls.len());
         let each = calls.iter().zip(called.chunks(HOST_CALLS.len()));
-        let mut calls: Vec<Line> =
-            each.map(|(call, own)| Line { work: format!("{graph}: {}", call.name), readings: own.to_vec() }).collect();
-        let mut read_and_check = calls.pop().expect("the last call reads and checks");
-        read_and_check.work = graph.clone();
-        let beside = [&read_and_check.readings[..1], checked].concat();
+        let mut calls: Vec<Line> = each.map(|(call, own)| Line::of(format!("{graph}: {}", call.name), own)).collect();
+        calls.pop();
         let mean = Line::mean(format!("{graph}: mean of the five"), &calls);
-        Measured { facts, calls, mean, read_and_check, check: Line { work: graph, readings: beside } }
+        let read = &called[called.len() - HOST_CALLS.len()..];
+        let read_and_check = Line::of(graph.clone(), read);
+        let check = Line::of(graph, &[&read[..1], checked].concat());
+        Measured { facts, calls, mean, read_and_check, check }
     }
 }
 

@@ -39,8 +39,8 @@ impl Measured {
         let tickets = list.len().div_ceil(TICKET_LENGTH);
         let pieces = tickets.max(1) as f64;
         let share = |own: &Readings| own.iter().map(|time| time / pieces).collect();
-        let line = Line { work: name.to_string(), readings: readings.iter().map(share).collect() };
-        Measured { tickets, accepted, line }
+        let shares: Vec<Readings> = readings.iter().map(share).collect();
+        Measured { tickets, accepted, line: Line::of(name.to_string(), &shares) }
     }
 }
 

@@ -38,13 +38,13 @@ fn head(settings: &Settings) -> String {
     let model = model.trim_start_matches([' ', '\t', ':']);
     let Settings { slices, processes, slice, .. } = settings;
     format!(
-        "# Benchmark\n\nWritten by `cargo bench --offline -- --write` in `host/`. Processor: {model}. Times are \
-         medians: of {slices} readings of\na host call by the wall clock (each {slice:?} of calls) and {processes} of a \
-         process by its processor time. The candidates take turns\nwithin each repetition, and each repetition \
-         starts with another one; a ratio is the median of the repetitions' ratios.\nAll answers, outputs and \
-         tables are compared in the run.\n\n- `proved`: the library behind the C interface, and program one.\n- \
-         `sorted`: plain safe Rust, the words sorted in a `Vec` and searched.\n- `bit rows`: plain safe Rust, \
-         sets of 256 bits, written for speed.\n"
+        "# Benchmark\n\nWritten by `cargo bench --offline -- --write` in `host/`. Processor: {model}.\nTimes are medians: \
+         of {slices} readings of a host call by the wall clock (each {slice:?} of calls) and {processes} of a process \
+         by its\nprocessor time. The candidates take turns within each repetition, and each repetition starts with \
+         another one; a ratio\nis the median of the repetitions' ratios, that of a mean the ratio of the means. All \
+         answers, outputs and tables are\ncompared in the run.\n\n- `proved`: the library behind the C interface, and \
+         program one.\n- `sorted`: plain safe Rust, the words sorted in a `Vec` and searched.\n- `bit rows`: plain safe \
+         Rust, sets of 256 bits, written for speed.\n"
     )
 }
 
@@ -78,7 +78,7 @@ fn checks_part(graphs: &[host_calls::Measured]) -> String {
 /// The curves of one line of each graph.
 fn curves_of(graphs: &[host_calls::Measured], line_of: fn(&host_calls::Measured) -> &Line) -> Vec<Curve> {
     let sizes: Vec<usize> = graphs.iter().map(|measured| measured.facts).collect();
-    let times: Vec<Vec<f64>> = graphs.iter().map(|measured| line_of(measured).times()).collect();
+    let times: Vec<Vec<f64>> = graphs.iter().map(|measured| line_of(measured).times.clone()).collect();
     Curve::each(&sizes, &times)
 }
 

@@ -1,6 +1,7 @@
 //! SQLite with triggers that carry the side effects, through its command, where it is installed. It runs insertions of
 //! good form only, in one transaction on a database in memory.
 
+use crate::clock::processor_time;
 use crate::plant::Bytes;
 use crate::programs::file_of;
 use crate::rivals::fact::PROPERTY;
@@ -9,7 +10,6 @@ use crate::rivals::sorted::Sorted;
 use crate::rivals::Rival;
 use std::fs::{self, File};
 use std::process::{Command, Stdio};
-use std::time::Instant;
 
 const SCHEMA: &str = include_str!("facts.sql");
 const RUNS: usize = 3;
@@ -50,16 +50,15 @@ pub fn measure(name: &str, tickets: &[Bytes]) -> Measured {
     Measured { tickets: tickets.len(), facts: words.len(), time: (time - start).max(0.0) / tickets.len() as f64 }
 }
 
-/// The nanoseconds of a process, and the words of its facts at the end.
+/// The processor's nanoseconds of a process, and the words of its facts at the end.
 fn run(name: &str, tickets: &[Bytes]) -> (f64, Vec<u32>) {
-    let path = file_of(&format!("{name}.sql"));
-    fs::write(&path, script(tickets)).expect("the target folder takes a file");
+    let (input, output) = (file_of(&format!("{name}.sql")), file_of(&format!("{name}.out")));
+    fs::write(&input, script(tickets)).expect("the target folder takes a file");
     let mut command = Command::new("sqlite3");
-    command.arg(":memory:").stdin(File::open(&path).expect("the script is there")).stderr(Stdio::null());
-    let start = Instant::now();
-    let output = command.output().expect("sqlite3 starts");
-    let time = start.elapsed().as_nanos() as f64;
-    let printed = String::from_utf8(output.stdout).expect("sqlite3 prints text");
+    command.arg(":memory:").stdin(File::open(&input).expect("the script is there"));
+    command.stdout(File::create(&output).expect("the target folder takes a file"));
+    let time = processor_time(command);
+    let printed = fs::read_to_string(&output).expect("sqlite3 prints text");
     (time, printed.lines().map(|line| line.parse().expect("a word")).collect())
 }
 

@@ -3,36 +3,31 @@
 use crate::candidates::NAMES;
 use crate::clock::{median, Readings};
 
-/// One piece of work and what it took each candidate, in nanoseconds, repetition by repetition.
+/// One piece of work and what it takes each candidate, in nanoseconds, with the proved one's ratio to each rival.
 #[derive(Clone)]
 pub struct Line {
     pub work: String,
-    pub readings: Vec<Readings>,
+    pub times: Vec<f64>,
+    ratios: Vec<f64>,
 }
 
 impl Line {
-    /// The median of each candidate.
-    pub fn times(&self) -> Vec<f64> {
-        self.readings.iter().cloned().map(median).collect()
+    /// From the readings of each candidate: the medians, and the medians of the ratios within each repetition.
+    pub fn of(work: String, readings: &[Readings]) -> Line {
+        let ratio = |rival: &Readings| median(readings[0].iter().zip(rival).map(|(own, its)| own / its).collect());
+        Line {
+            work,
+            times: readings.iter().cloned().map(median).collect(),
+            ratios: readings[1..].iter().map(ratio).collect(),
+        }
     }
 
-    /// For each rival the median of the ratios of the proved one's reading to its own in the same repetition.
-    fn ratios(&self) -> Vec<f64> {
-        let ratio = |rival: &Readings| median(self.readings[0].iter().zip(rival).map(|(own, its)| own / its).collect());
-        self.readings[1..].iter().map(ratio).collect()
-    }
-
-    /// The mean of several lines, in each repetition.
+    /// The mean of several lines, and its ratios.
     pub fn mean(work: String, lines: &[Line]) -> Line {
-        let count = lines.len() as f64;
-        let mean_at = |candidate: usize, repetition: usize| {
-            lines.iter().map(|line| line.readings[candidate][repetition]).sum::<f64>() / count
-        };
-        let each = |candidate: usize| {
-            let repetitions = 0..lines[0].readings[candidate].len();
-            repetitions.map(|repetition| mean_at(candidate, repetition)).collect()
-        };
-        Line { work, readings: (0..lines[0].readings.len()).map(each).collect() }
+        let mean_of = |column: usize| lines.iter().map(|line| line.times[column]).sum::<f64>() / lines.len() as f64;
+        let times: Vec<f64> = (0..lines[0].times.len()).map(mean_of).collect();
+        let ratios = times[1..].iter().map(|time| times[0] / time).collect();
+        Line { work, times, ratios }
     }
 }
 
@@ -55,8 +50,8 @@ pub fn table(first: &str, unit: Unit, lines: &[Line]) -> String {
 
 fn cells(unit: Unit, line: &Line) -> Vec<String> {
     let mut cells = vec![line.work.clone()];
-    cells.extend(line.times().iter().map(|time| shown(unit, *time)));
-    cells.extend(line.ratios().iter().map(|ratio| format!("{ratio:.2}")));
+    cells.extend(line.times.iter().map(|time| shown(unit, *time)));
+    cells.extend(line.ratios.iter().map(|ratio| format!("{ratio:.2}")));
     cells
 }
 
