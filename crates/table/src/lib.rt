@@ -21,6 +21,7 @@ pub use room::copy_words;
 pub use room::put_at;
 pub use search::Found;
 pub use search::count_below;
+pub use search::count_up_to;
 pub use search::find;
 pub use search::has_fact;
 pub use search::has_word;

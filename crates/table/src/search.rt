@@ -1,6 +1,6 @@
 // The search among the first n words of a table, where these ascend.
 ghost use mathlib.Core.Path.{_≡_};
-ghost use Prim.Native.Nat.{_≤_};
+ghost use Prim.Native.Nat.{_+_, _≤_};
 ghost use lib.ListN.{length, take};
 ghost use Rattle.rdfs.specs.Lists.{Ascending, member};
 ghost use Rattle.rdfs.specs.Facts.{made, has};
@@ -34,6 +34,21 @@ pub fn count_below(t: &[Word], n: usize, w: Word) -> usize
         size -= half;
     }
     lo + is_below(t[lo], w)
+}
+
+// How many of the first n words are at most c, of which at least i are: a walk up from place i.
+pub fn count_up_to(t: &[Word], n: usize, c: Word, i: usize) -> usize
+    requires { ⌜ (n ≤ length (now t)) × Ascending (take n (now t)) × (i ≤ below (take n (now t)) (c + 1)) ⌝ }
+    ensures { λ r. ⌜ r ≡ below (take n (now (t .entry))) (c + 1) ⌝ }
+{
+    let mut k = i;
+    while k < n {
+        if c < t[k] {
+            return k;
+        }
+        k += 1;
+    }
+    k
 }
 
 // Where w stands among the first n words, or where it would go.
