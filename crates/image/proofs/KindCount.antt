@@ -8,16 +8,17 @@ use lib.Dec.{T, eqb}
 use lib.ListN.{length, take}
 use Rattle.rdfs.specs.Numbers.{product}
 use Rattle.rdfs.specs.Lists.{_∈_, here, there, Ascending}
-use Rattle.rdfs.specs.Words.{isFact, filled}
+use Rattle.rdfs.specs.Words.{fact, isFact, filled}
 use Rattle.rdfs.proofs.Filters.{filter-split}
 use Rattle.rdfs.proofs.LaidOut.{laid-is-fact}
 use Rattle.rdfs.proofs.Theorems.{product-sound}
 use Rattle.table.specs.Found.{below}
 use Rattle.table.specs.Parts.{wordOf}
-use Rattle.table.proofs.Below.{below-less, below-not}
+use Rattle.table.proofs.Below.{below-less, below-not, below-none}
 use Rattle.table.proofs.Filled.{counted-filled, counted-ascending, filled-within}
 use Rattle.image.specs.Image.{factKind, ofKind}
 use Rattle.image.specs.Writing.{Counted}
+use Rattle.image.proofs.FactsRead.{fact-kind}
 use Rattle.image.proofs.Grouped.{kind-more, kind-skip, word-within}
 
 kind-between : (k : ℕ) (l : List ℕ) → ((w : ℕ) → w ∈ l → T (isFact product w)) → below l (wordOf (k + 1) 0 0 0) ≡ below l (wordOf k 0 0 0) + length (ofKind product k l)
@@ -46,6 +47,12 @@ kind-between k (w ∷ l) h =
 module _ (t : List ℕ) (n : ℕ) (c : Counted t n) where
   pub counted-ready : (n ≤ length t) × Ascending (take n t)
   counted-ready = counted-ascending product t (c .laid) n (c .count)
+
+  -- No word is below kind 1.
+  pub kind-first : 0 ≡ below (take n t) (wordOf 1 0 0 0)
+  kind-first =
+      let same : take n t ≡ filled t = counted-filled product t (c .laid) n (c .count) in
+      sym (ap (λ m. below m (wordOf 1 0 0 0)) same ∙ below-none (wordOf 1 0 0 0) (filled t) (λ w i. omega (arith, word-within product product-sound w (laid-is-fact product t (c .laid) w i) .0, fact-kind (fact (product .base) w) .0)))
 
   -- Two searches, for the first word of kind k and the first of the next.
   module _ (k from to : ℕ) (f : from ≡ below (take n t) (wordOf k 0 0 0)) (g : to ≡ below (take n t) (wordOf (k + 1) 0 0 0)) where

@@ -1,25 +1,33 @@
--- The length of a table's image, kind by kind, and how long it can be. Assumes nothing.
+-- The length of a table's image, by the words below two others and kind by kind, and how long it can be. Assumes nothing.
 use Prim.Native.Nat.{ℕ, _+_, _*_, _-_, _≤_, _<_}
 use mathlib.Core.Path.{_≡_, refl, sym, ap, _∙_}
+use mathlib.Core.Bool.{cond}
 use mathlib.Core.List.{List, [], _∷_, _++_, append-assoc}
 use native.Mathlib.Omega.{arith}
-use lib.Dec.{lit≤}
-use lib.ListN.{length, length-append}
-use Rattle.rdfs.specs.Numbers.{product}
-use Rattle.rdfs.specs.Lists.{concatMap}
-use Rattle.rdfs.specs.Words.{filled}
+use native.Mathlib.Decide.{decLt}
+use lib.Dec.{T, eqb, leb, lit≤}
+use lib.ListN.{length, take, length-append}
+use borrow.Author.Tests.{ne-eqb, le-leb, lt-leb}
+use Rattle.rdfs.specs.Numbers.{product, arity}
+use Rattle.rdfs.specs.Lists.{_∈_, here, there, Ascending, concatMap}
+use Rattle.rdfs.specs.Words.{fact, isFact, filled}
+use Rattle.rdfs.proofs.LaidOut.{laid-is-fact}
 use Rattle.rdfs.proofs.Theorems.{product-sound}
-use Rattle.table.proofs.Filled.{filled-within}
+use Rattle.table.specs.Found.{below}
+use Rattle.table.specs.Parts.{wordOf}
+use Rattle.table.proofs.Below.{below-less, below-not, first-within}
+use Rattle.table.proofs.Filled.{counted-filled, counted-ascending, filled-within}
 use Rattle.image.specs.Form.{form, factSize, largestFact, firstBody, kindsAfter, kinds}
 use Rattle.image.specs.Image.{factKind, ofKind, idBytes, bodyOf, bodies, imageOf}
 use Rattle.image.specs.Reading.{Facts}
 use Rattle.image.specs.Calls.{tableImage}
 use Rattle.image.specs.Writing.{Counted}
+use Rattle.image.proofs.FactsRead.{fact-kind}
 use Rattle.image.proofs.WordsRead.{idBytes-length}
+use Rattle.image.proofs.Grouped.{word-within}
 use Rattle.image.proofs.ImageRead.{bodyOf-length, image-length}
 use Rattle.image.proofs.RoundTrip.{kinds-all, filled-facts}
-use Rattle.image.proofs.Places.{arity-few}
-use Rattle.image.proofs.Linking.{kinds-more, kinds-done}
+use Rattle.image.proofs.Linking.{kinds-more}
 use Rattle.image.proofs.Product.{proper}
 
 pub concat-append : (f : ℕ → List ℕ) (l m : List ℕ) → concatMap f (l ++ m) ≡ concatMap f l ++ concatMap f m
@@ -34,21 +42,62 @@ concat-concat f g (k ∷ ks) = ap (λ r. concatMap f (g k) ++ r) (concat-concat 
 pub bodies-all : (l : List ℕ) → Facts product l → bodies product form l (kinds form) ≡ concatMap (idBytes product form) l
 bodies-all l h = concat-concat (idBytes product form) (λ k. ofKind product k l) (kinds form) ∙ ap (concatMap (idBytes product form)) (kinds-all product form product-sound proper (lit≤ tt) l h)
 
-ids-short : (l : List ℕ) → length (concatMap (idBytes product form) l) ≤ largestFact form * length l
-ids-short [] = omega arith
-ids-short (w ∷ l) =
-    let one : length (idBytes product form w) ≤ largestFact form = omega (arith, idBytes-length product form w, arity-few (factKind product w)) in
-    omega (arith, one, ids-short l, length-append (idBytes product form w) (concatMap (idBytes product form) l))
+-- How many ids a kind has.
+arity-one : (k : ℕ) → 1 ≤ k → k < 5 → arity k ≡ 1
+arity-one k a b = ap (λ e. cond e 0 (cond (leb k 4) 1 (cond (leb k 9) 2 (cond (eqb k 10) 3 0)))) (ne-eqb k 0 (omega arith)) ∙ ap (λ e. cond e 1 (cond (leb k 9) 2 (cond (eqb k 10) 3 0))) (le-leb k 4 (omega arith))
+
+arity-two : (k : ℕ) → 5 ≤ k → k < 10 → arity k ≡ 2
+arity-two k a b =
+    ap (λ e. cond e 0 (cond (leb k 4) 1 (cond (leb k 9) 2 (cond (eqb k 10) 3 0)))) (ne-eqb k 0 (omega arith))
+    ∙ (ap (λ e. cond e 1 (cond (leb k 9) 2 (cond (eqb k 10) 3 0))) (lt-leb k 4 (omega arith)) ∙ ap (λ e. cond e 2 (cond (eqb k 10) 3 0)) (le-leb k 9 (omega arith)))
+
+-- Three ids for each fact, less one for each of a kind below 5, and one for each of a kind below 10.
+ids-counted : (l : List ℕ) → ((w : ℕ) → w ∈ l → T (isFact product w)) → length (concatMap (idBytes product form) l) + (below l (wordOf 5 0 0 0) + below l (wordOf 10 0 0 0)) ≡ 3 * length l
+ids-counted [] h = refl
+ids-counted (w ∷ l) h =
+    let rest = ids-counted l (λ x i. h x (there i)) in
+    let b = word-within product product-sound w (h w (here refl)) in
+    let k : ℕ = factKind product w in
+    let known = fact-kind (fact (product .base) w) in
+    let size : length (idBytes product form w) ≡ arity k = idBytes-length product form w ∙ omega arith in
+    let both = length-append (idBytes product form w) (concatMap (idBytes product form) l) in
+    elim (decLt k 5) [
+      | yes low ↦ omega (arith, rest, both, size, arity-one k (known .0) low, below-less w (wordOf 5 0 0 0) l (omega (arith, b .1, low)), below-less w (wordOf 10 0 0 0) l (omega (arith, b .1, low)))
+      | no high ↦ elim (decLt k 10) [
+        | yes low ↦ omega (arith, rest, both, size, arity-two k (omega (arith, high)) low, below-not w (wordOf 5 0 0 0) l (omega (arith, b .0, high)), below-less w (wordOf 10 0 0 0) l (omega (arith, b .1, low)))
+        | no top ↦
+            let last : k ≡ 10 = omega (arith, known .1, top) in
+            omega (arith, rest, both, size, ap arity last, below-not w (wordOf 5 0 0 0) l (omega (arith, b .0, last)), below-not w (wordOf 10 0 0 0) l (omega (arith, b .0, last)))
+      ]
+    ]
 
 module _ (t : List ℕ) (n : ℕ) (c : Counted t n) where
   pub counted-facts : Facts product (filled t)
   counted-facts = filled-facts product product-sound t (c .laid)
 
+  ready : (n ≤ length t) × Ascending (take n t)
+  ready = counted-ascending product t (c .laid) n (c .count)
+
   pub image-whole : length (tableImage t) ≡ firstBody form + length (concatMap (idBytes product form) (filled t))
   image-whole = image-length product form proper (filled t) ∙ ap (λ m. firstBody form + length m) (bodies-all (filled t) counted-facts)
 
+  -- Two searches, for the first word with two ids and the first with three.
+  module _ (ones twos : ℕ) (f : ones ≡ below (take n t) (wordOf 5 0 0 0)) (g : twos ≡ below (take n t) (wordOf 10 0 0 0)) where
+    pub ones-within : ones ≤ n
+    ones-within = omega (arith, f, first-within t n (wordOf 5 0 0 0) (ready .0) (ready .1))
+
+    pub twos-within : twos ≤ n
+    twos-within = omega (arith, g, first-within t n (wordOf 10 0 0 0) (ready .0) (ready .1))
+
+    pub image-counted : firstBody form + (n + (n - ones) + (n - twos)) ≡ length (tableImage t)
+    image-counted =
+        let same : take n t ≡ filled t = counted-filled product t (c .laid) n (c .count) in
+        let low : ones ≡ below (filled t) (wordOf 5 0 0 0) = f ∙ ap (λ m. below m (wordOf 5 0 0 0)) same in
+        let high : twos ≡ below (filled t) (wordOf 10 0 0 0) = g ∙ ap (λ m. below m (wordOf 10 0 0 0)) same in
+        omega (arith, image-whole, ids-counted (filled t) (laid-is-fact product t (c .laid)), low, high, c .count, ones-within, twos-within)
+
   pub image-small : length (tableImage t) ≤ firstBody form + largestFact form * product .most
-  image-small = omega (arith, image-whole, ids-short (filled t), filled-within product t (c .laid), c .few)
+  image-small = omega (arith, image-whole, ids-counted (filled t) (laid-is-fact product t (c .laid)), filled-within product t (c .laid), c .few)
 
 -- The bodies of the first `done` kinds end at `start`.
 pub record Measured (l : List ℕ) (done start : ℕ) : Type 0 where
@@ -72,6 +121,3 @@ module _ {l : List ℕ} {done start : ℕ} (m : Measured l done start) where
         within = omega arith;
         rest = omega (arith, m .rest, ap length split, length-append (bodyOf product form l k) others, long);
       }
-
-  pub measured-all : form .entries ≤ done → start ≡ length (imageOf product form l)
-  measured-all h = omega (arith, m .rest, ap length (ap (bodies product form l) (kinds-done (form .entries) done h)))

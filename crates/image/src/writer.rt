@@ -5,9 +5,11 @@ ghost use Prim.Native.Nat.{_+_, _/_, _%_, _≤_, _<_};
 ghost use lib.Dec.{T};
 ghost use lib.ListN.{length, set, take, drop};
 ghost use Rattle.rdfs.specs.Numbers.{product};
-ghost use Rattle.rdfs.specs.Words.{isFact, filled};
+ghost use Rattle.rdfs.specs.Words.{isFact};
+ghost use Rattle.table.specs.Found.{below};
+ghost use Rattle.table.specs.Parts.{wordOf};
 ghost use Rattle.image.specs.Form.{form, byteValues, fieldValues, entryAt, firstBody};
-ghost use Rattle.image.specs.Image.{ofKind, idBytes, entry};
+ghost use Rattle.image.specs.Image.{idBytes, entry};
 ghost use Rattle.image.specs.Calls.{tableImage};
 ghost use Rattle.image.specs.Writing.{Counted, over};
 use crate::form::BYTE;
@@ -16,8 +18,11 @@ use crate::form::ENTRIES;
 use crate::form::FIELD_SIZE;
 use crate::form::FIELDS;
 use crate::form::FIRST_BODY;
+use crate::form::ID_SIZE;
 use crate::form::entry_at;
 use crate::form::fact_size;
+use table::LITERAL;
+use table::MEMBER;
 use table::Word;
 use table::arity_of;
 use table::count_below;
@@ -27,33 +32,23 @@ use table::second_of;
 use table::third_of;
 use table::word_of;
 
-// How many facts of kind k a table has.
-pub fn kind_count(t: &[Word], n: usize, k: Word) -> usize
+// How many facts a table has of the kinds up to k.
+fn count_to(t: &[Word], n: usize, k: Word) -> usize
     requires { ⌜ Counted (now t) n × (k ≤ form .entries) ⌝ }
-    ensures { λ r. ⌜ (r ≡ length (ofKind product k (filled (now (t .entry))))) × (r ≤ product .most) ⌝ }
+    ensures { λ r. ⌜ r ≡ below (take n (now (t .entry))) (wordOf (k + 1) 0 0 0) ⌝ }
 {
-    let first = word_of(k, 0, 0, 0);
     let next = word_of(k + 1, 0, 0, 0);
-    let from = count_below(t, n, first);
-    let to = count_below(t, n, next);
-    to - from
+    count_below(t, n, next)
 }
 
-// The length of a table's image.
+// The length of a table's image: an id for each fact, a second one from CSub on, a third one for PI.
 pub fn image_length(t: &[Word], n: usize) -> usize
     requires { ⌜ Counted (now t) n ⌝ }
     ensures { λ r. ⌜ (r ≡ length (tableImage (now (t .entry)))) × (r < fieldValues form) ⌝ }
 {
-    let mut done: Word = 0;
-    let mut start = FIRST_BODY;
-    while done < ENTRIES {
-        let k = done + 1;
-        let size = fact_size(k);
-        let count = kind_count(t, n, k);
-        start += size * count;
-        done = k;
-    }
-    start
+    let ones = count_to(t, n, LITERAL);
+    let twos = count_to(t, n, MEMBER);
+    FIRST_BODY + ID_SIZE * (n + (n - ones) + (n - twos))
 }
 
 // Stores a start or a count: 16 bits, low byte first.
@@ -87,12 +82,15 @@ pub fn put_contents(t: &[Word], n: usize, output: &mut [u8])
     output[1] = ENTRIES as u8;
     let mut done: Word = 0;
     let mut start = FIRST_BODY;
+    let mut from = 0;
     while done < ENTRIES {
         let k = done + 1;
         let size = fact_size(k);
-        let count = kind_count(t, n, k);
+        let to = count_to(t, n, k);
+        let count = to - from;
         put_entry(output, k, start, count);
         start += size * count;
+        from = to;
         done = k;
     }
 }

@@ -1,11 +1,15 @@
--- `writer::put_contents`. The loop's invariant is `Entered`: the entries of the kinds passed are stored. The measure is the number of kinds left. Assumes nothing.
+-- `writer::put_contents`. The loop's invariant is `Entered`: the entries of the kinds passed are stored; their facts stand before `from`. The measure is the number of
+-- kinds left. Assumes nothing.
 use native.Mathlib.Omega.{arith}
-use mathlib.Core.Path.{_∙_}
-use Prim.Native.Nat.{_-_}
-use lib.ListN.{length-set}
+use mathlib.Core.Path.{_≡_, _∙_}
+use Prim.Native.Nat.{_+_, _-_}
+use lib.ListN.{take, length-set}
 use Rattle.rdfs.specs.Words.{filled}
+use Rattle.table.specs.Found.{below}
+use Rattle.table.specs.Parts.{wordOf}
 use Rattle.image.specs.Form.{form}
 use Rattle.image.proofs.Linking.{product-small}
+use Rattle.image.proofs.KindCount.{kind-first, kind-order, kind-found}
 use Rattle.image.proofs.Measuring.{image-whole, image-small, measured-within}
 use Rattle.image.proofs.PutParts.{Entered, entered-start, entered-length, entered-more, entered-done}
 use borrow.Author.Needs.{needs}
@@ -13,25 +17,31 @@ use Rattle.image.proofs.writer.put_contents.Statement.{statement}
 use Rattle.image.proofs.writer.put_contents.Tie as tie
 
 abbrev Inv-loop : tie.InvT-loop
-Inv-loop t n output₀ done₀ start₀ output done start = Entered (filled t) output₀ output done start
+Inv-loop t n output₀ done₀ start₀ from₀ output done start from = Entered (filled t) output₀ output done start × (from ≡ below (take n t) (wordOf (done + 1) 0 0 0))
 
 abbrev μ-loop : tie.MeasureT-loop
-μ-loop t n output₀ done₀ start₀ output done start = form .entries - done
+μ-loop t n output₀ done₀ start₀ from₀ output done start from = form .entries - done
 
 cast-output : tie.Need-cast-output Inv-loop μ-loop
 cast-output c = omega arith
 
 slice-write-output : tie.Need-slice-write-output Inv-loop μ-loop
-slice-write-output c = omega (arith, c .before .before .pre .1, image-whole (c .before .before .args .t .now) (c .before .before .args .n) (c .before .before .pre .0))
+slice-write-output c =
+    let s = c .before .before in
+    omega (arith, s .pre .1, image-whole (s .args .t .now) (s .args .n) (s .pre .0))
 
 cast-output-2 : tie.Need-cast-output-2 Inv-loop μ-loop
 cast-output-2 c = omega arith
 
 slice-write-output-2 : tie.Need-slice-write-output-2 Inv-loop μ-loop
-slice-write-output-2 c = simp length-set (omega (arith, c .before .before .pre .1, image-whole (c .before .before .args .t .now) (c .before .before .args .n) (c .before .before .pre .0)))
+slice-write-output-2 c =
+    let s = c .before .before in
+    simp length-set (omega (arith, s .pre .1, image-whole (s .args .t .now) (s .args .n) (s .pre .0)))
 
 loop-holds : tie.Need-loop-holds Inv-loop μ-loop
-loop-holds c = entered-start _ (c .before .before .args .output .now) (c .before .before .pre .1)
+loop-holds c =
+    let s = c .before .before in
+    (entered-start _ (s .args .output .now) (s .pre .1), kind-first (s .args .t .now) (s .args .n) (s .pre .0))
 
 add-k : tie.Need-add-k Inv-loop μ-loop
 add-k c = omega (arith, c .loop-test .taken)
@@ -39,40 +49,64 @@ add-k c = omega (arith, c .loop-test .taken)
 fact-size-requires : tie.Need-fact-size-requires Inv-loop μ-loop
 fact-size-requires c κs = search needs
 
-kind-count-requires : tie.Need-kind-count-requires Inv-loop μ-loop
-kind-count-requires c κs = (c .before .before .before .before .before .pre .0, omega (arith, c .before .loop-test .taken))
+count-to-requires : tie.Need-count-to-requires Inv-loop μ-loop
+count-to-requires c κs = (c .before .before .before .before .before .pre .0, omega (arith, c .before .loop-test .taken))
+
+sub-count : tie.Need-sub-count Inv-loop μ-loop
+sub-count c =
+    let at-loop = c .before .before .before in
+    let s = at-loop .before .before .before in
+    omega (arith, kind-order (s .args .t .now) (s .args .n) (s .pre .0) (at-loop .loop .done + 1) (at-loop .loop .from) (c .count-to .result) (at-loop .loop .inv .1) (c .count-to .ensures))
 
 put-entry-requires : tie.Need-put-entry-requires Inv-loop μ-loop
 put-entry-requires c κs =
-    let t = c .before .before .before .before .before .before .before .args .t .now in
-    let n = c .before .before .before .before .before .before .before .args .n in
-    let long = entered-length (c .before .before .before .before .loop .inv) (simp length-set (c .before .before .before .before .before .before .before .pre .1)) in (
+    let at-count = c .before in
+    let at-loop = at-count .before .before .before in
+    let s = at-loop .before .before .before in
+    let long = entered-length (at-loop .loop .inv .0) (simp length-set (s .pre .1)) in
+    let found = kind-found (s .args .t .now) (s .args .n) (s .pre .0) (at-loop .loop .done + 1) (at-loop .loop .from) (at-count .count-to .result) (at-loop .loop .inv .1) (at-count .count-to .ensures) in (
       omega arith,
-      omega (arith, c .before .before .before .loop-test .taken),
-      omega (arith, simp length-set at long, c .before .before .before .before .before .before .before .pre .1, image-whole t n (c .before .before .before .before .before .before .before .pre .0)),
-      omega (arith, measured-within (c .before .before .before .before .loop .inv .measured), image-small t n (c .before .before .before .before .before .before .before .pre .0)),
-      omega (arith, c .before .kind-count .ensures .1),
+      omega (arith, at-count .before .before .loop-test .taken),
+      omega (arith, simp length-set at long, s .pre .1, image-whole (s .args .t .now) (s .args .n) (s .pre .0)),
+      omega (arith, measured-within (at-loop .loop .inv .0 .measured), image-small (s .args .t .now) (s .args .n) (s .pre .0)),
+      omega (arith, found .1),
     )
 
 mul-start : tie.Need-mul-start Inv-loop μ-loop
-mul-start c = omega (arith, product-small (c .before .before .before .before .before .fact-size .result) (c .before .before .before .before .kind-count .result) (c .before .before .before .before .before .fact-size .ensures .1) (omega (arith, c .before .before .before .before .kind-count .ensures .1)))
+mul-start c =
+    let at-count = c .before .before .before .before in
+    let at-loop = at-count .before .before .before in
+    let s = at-loop .before .before .before in
+    let found = kind-found (s .args .t .now) (s .args .n) (s .pre .0) (at-loop .loop .done + 1) (at-loop .loop .from) (at-count .count-to .result) (at-loop .loop .inv .1) (at-count .count-to .ensures) in
+    omega (arith, product-small (at-count .before .fact-size .result) (at-count .count-to .result - at-loop .loop .from) (at-count .before .fact-size .ensures .1) (omega (arith, found .1)))
 
 add-start : tie.Need-add-start Inv-loop μ-loop
 add-start c =
-    let next = entered-more (c .before .before .before .before .before .before .before .loop .inv) (c .before .before .before .before .before .before .loop-test .taken) _ _ (c .before .before .before .before .before .fact-size .ensures .0) (c .before .before .before .before .kind-count .ensures .0) _ (c .before .before .put-entry .ensures) in
-    omega (arith, measured-within (next .measured), image-small (c .before .before .before .before .before .before .before .before .before .before .args .t .now) (c .before .before .before .before .before .before .before .before .before .before .args .n) (c .before .before .before .before .before .before .before .before .before .before .pre .0))
+    let at-count = c .before .before .before .before in
+    let at-loop = at-count .before .before .before in
+    let s = at-loop .before .before .before in
+    let found = kind-found (s .args .t .now) (s .args .n) (s .pre .0) (at-loop .loop .done + 1) (at-loop .loop .from) (at-count .count-to .result) (at-loop .loop .inv .1) (at-count .count-to .ensures) in
+    let next = entered-more (at-loop .loop .inv .0) (at-count .before .before .loop-test .taken) _ _ (at-count .before .fact-size .ensures .0) (found .0) _ (c .before .before .put-entry .ensures) in
+    omega (arith, measured-within (next .measured), image-small (s .args .t .now) (s .args .n) (s .pre .0))
 
 loop-less : tie.Need-loop-less Inv-loop μ-loop
 loop-less c = omega (arith, c .before .before .before .before .before .before .loop-test .taken)
 
 loop-again : tie.Need-loop-again Inv-loop μ-loop
-loop-again c = entered-more (c .before .before .before .before .before .before .before .loop .inv) (c .before .before .before .before .before .before .loop-test .taken) _ _ (c .before .before .before .before .before .fact-size .ensures .0) (c .before .before .before .before .kind-count .ensures .0) _ (c .before .before .put-entry .ensures)
+loop-again c =
+    let at-count = c .before .before .before .before in
+    let at-loop = at-count .before .before .before in
+    let s = at-loop .before .before .before in
+    let found = kind-found (s .args .t .now) (s .args .n) (s .pre .0) (at-loop .loop .done + 1) (at-loop .loop .from) (at-count .count-to .result) (at-loop .loop .inv .1) (at-count .count-to .ensures) in
+    (entered-more (at-loop .loop .inv .0) (at-count .before .before .loop-test .taken) _ _ (at-count .before .fact-size .ensures .0) (found .0) _ (c .before .before .put-entry .ensures), at-count .count-to .ensures)
 
 same-length : tie.Need-same-length Inv-loop μ-loop
-same-length c = entered-length (c .before .loop .inv) (simp length-set (c .before .before .before .before .pre .1)) ∙ simp length-set
+same-length c = entered-length (c .before .loop .inv .0) (simp length-set (c .before .before .before .before .pre .1)) ∙ simp length-set
 
 returns : tie.Need-returns Inv-loop μ-loop
-returns c = entered-done (filled (c .before .before .before .before .args .t .now)) (c .before .before .before .before .args .output .now) (c .before .loop .inv) (c .loop-test .left)
+returns c =
+    let s = c .before .before .before .before in
+    entered-done (filled (s .args .t .now)) (s .args .output .now) (c .before .loop .inv .0) (c .loop-test .left)
 
 pub put-contents-spec : {M : Type 1} → statement M
 put-contents-spec =
@@ -87,7 +121,8 @@ put-contents-spec =
     loop-holds
     add-k
     fact-size-requires
-    kind-count-requires
+    count-to-requires
+    sub-count
     put-entry-requires
     mul-start
     add-start
