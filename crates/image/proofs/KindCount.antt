@@ -1,11 +1,12 @@
 -- How many words of a kind a table has, by the words below its first and below the next kind's. Assumes nothing.
-use Prim.Native.Nat.{ℕ, _+_, _-_, _≤_}
-use mathlib.Core.Path.{_≡_, refl, sym, ap, _∙_}
+use Prim.Native.Nat.{ℕ, _+_, _-_, _≤_, _<_}
+use mathlib.Core.Path.{_≡_, refl, sym, ap, subst, _∙_}
 use mathlib.Core.List.{List, [], _∷_}
 use native.Mathlib.Omega.{arith}
 use native.Mathlib.Decide.{decLt}
 use lib.Dec.{T, eqb}
-use lib.ListN.{length, take}
+use lib.ListN.{length, getD, take}
+use lib.Seq.{getD-take}
 use Rattle.rdfs.specs.Numbers.{product}
 use Rattle.rdfs.specs.Lists.{_∈_, here, there, Ascending}
 use Rattle.rdfs.specs.Words.{fact, isFact, filled}
@@ -15,7 +16,7 @@ use Rattle.rdfs.proofs.Theorems.{product-sound}
 use Rattle.table.specs.Found.{below}
 use Rattle.table.specs.Parts.{wordOf}
 use Rattle.table.proofs.Below.{below-less, below-not, below-none}
-use Rattle.table.proofs.Filled.{counted-filled, counted-ascending, filled-within}
+use Rattle.table.proofs.Filled.{at-in, counted-filled, counted-ascending, filled-within}
 use Rattle.image.specs.Image.{factKind, ofKind}
 use Rattle.image.specs.Writing.{Counted}
 use Rattle.image.proofs.FactsRead.{fact-kind}
@@ -47,6 +48,13 @@ kind-between k (w ∷ l) h =
 module _ (t : List ℕ) (n : ℕ) (c : Counted t n) where
   pub counted-ready : (n ≤ length t) × Ascending (take n t)
   counted-ready = counted-ascending product t (c .laid) n (c .count)
+
+  -- The word at a place before n is a fact's.
+  pub counted-word : (i : ℕ) → i < n → getD t i 0 ≡ getD (filled t) i 0
+  counted-word i h = sym (getD-take n t i 0 h) ∙ ap (λ m. getD m i 0) (counted-filled product t (c .laid) n (c .count))
+
+  pub counted-fact : (i : ℕ) → i < n → T (isFact product (getD t i 0))
+  counted-fact i h = subst (λ w. T (isFact product w)) (sym (counted-word i h)) (laid-is-fact product t (c .laid) (getD (filled t) i 0) (at-in (filled t) i (omega (arith, h, c .count))))
 
   -- No word is below kind 1.
   pub kind-first : 0 ≡ below (take n t) (wordOf 1 0 0 0)

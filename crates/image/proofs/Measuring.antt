@@ -1,34 +1,34 @@
 -- The length of a table's image, by the words below two others and kind by kind, and how long it can be. Assumes nothing.
 use Prim.Native.Nat.{ℕ, _+_, _*_, _-_, _≤_, _<_}
 use mathlib.Core.Path.{_≡_, refl, sym, ap, _∙_}
-use mathlib.Core.Bool.{cond}
 use mathlib.Core.List.{List, [], _∷_, _++_, append-assoc}
 use native.Mathlib.Omega.{arith}
 use native.Mathlib.Decide.{decLt}
-use lib.Dec.{T, eqb, leb, lit≤}
+use lib.Dec.{T, lit≤}
 use lib.ListN.{length, take, length-append}
-use borrow.Author.Tests.{ne-eqb, le-leb, lt-leb}
 use Rattle.rdfs.specs.Numbers.{product, arity}
-use Rattle.rdfs.specs.Lists.{_∈_, here, there, Ascending, concatMap}
+use Rattle.rdfs.specs.Lists.{_∈_, here, there, concatMap}
 use Rattle.rdfs.specs.Words.{fact, isFact, filled}
 use Rattle.rdfs.proofs.LaidOut.{laid-is-fact}
 use Rattle.rdfs.proofs.Theorems.{product-sound}
 use Rattle.table.specs.Found.{below}
 use Rattle.table.specs.Parts.{wordOf}
 use Rattle.table.proofs.Below.{below-less, below-not, first-within}
-use Rattle.table.proofs.Filled.{counted-filled, counted-ascending, filled-within}
+use Rattle.table.proofs.Filled.{counted-filled, filled-within}
 use Rattle.image.specs.Form.{form, factSize, largestFact, firstBody, kindsAfter, kinds}
 use Rattle.image.specs.Image.{factKind, ofKind, idBytes, bodyOf, bodies, imageOf}
 use Rattle.image.specs.Reading.{Facts}
 use Rattle.image.specs.Calls.{tableImage}
 use Rattle.image.specs.Writing.{Counted}
 use Rattle.image.proofs.FactsRead.{fact-kind}
+use Rattle.image.proofs.Places.{arity-one, arity-two}
 use Rattle.image.proofs.WordsRead.{idBytes-length}
 use Rattle.image.proofs.Grouped.{word-within}
 use Rattle.image.proofs.ImageRead.{bodyOf-length, image-length}
 use Rattle.image.proofs.RoundTrip.{kinds-all, filled-facts}
 use Rattle.image.proofs.Linking.{kinds-more}
 use Rattle.image.proofs.Product.{proper}
+use Rattle.image.proofs.KindCount.{counted-ready}
 
 pub concat-append : (f : ℕ → List ℕ) (l m : List ℕ) → concatMap f (l ++ m) ≡ concatMap f l ++ concatMap f m
 concat-append f [] m = refl
@@ -41,15 +41,6 @@ concat-concat f g (k ∷ ks) = ap (λ r. concatMap f (g k) ++ r) (concat-concat 
 -- The bodies are the ids of all facts, in order.
 pub bodies-all : (l : List ℕ) → Facts product l → bodies product form l (kinds form) ≡ concatMap (idBytes product form) l
 bodies-all l h = concat-concat (idBytes product form) (λ k. ofKind product k l) (kinds form) ∙ ap (concatMap (idBytes product form)) (kinds-all product form product-sound proper (lit≤ tt) l h)
-
--- How many ids a kind has.
-arity-one : (k : ℕ) → 1 ≤ k → k < 5 → arity k ≡ 1
-arity-one k a b = ap (λ e. cond e 0 (cond (leb k 4) 1 (cond (leb k 9) 2 (cond (eqb k 10) 3 0)))) (ne-eqb k 0 (omega arith)) ∙ ap (λ e. cond e 1 (cond (leb k 9) 2 (cond (eqb k 10) 3 0))) (le-leb k 4 (omega arith))
-
-arity-two : (k : ℕ) → 5 ≤ k → k < 10 → arity k ≡ 2
-arity-two k a b =
-    ap (λ e. cond e 0 (cond (leb k 4) 1 (cond (leb k 9) 2 (cond (eqb k 10) 3 0)))) (ne-eqb k 0 (omega arith))
-    ∙ (ap (λ e. cond e 1 (cond (leb k 9) 2 (cond (eqb k 10) 3 0))) (lt-leb k 4 (omega arith)) ∙ ap (λ e. cond e 2 (cond (eqb k 10) 3 0)) (le-leb k 9 (omega arith)))
 
 -- Three ids for each fact, less one for each of a kind below 5, and one for each of a kind below 10.
 ids-counted : (l : List ℕ) → ((w : ℕ) → w ∈ l → T (isFact product w)) → length (concatMap (idBytes product form) l) + (below l (wordOf 5 0 0 0) + below l (wordOf 10 0 0 0)) ≡ 3 * length l
@@ -75,19 +66,16 @@ module _ (t : List ℕ) (n : ℕ) (c : Counted t n) where
   pub counted-facts : Facts product (filled t)
   counted-facts = filled-facts product product-sound t (c .laid)
 
-  ready : (n ≤ length t) × Ascending (take n t)
-  ready = counted-ascending product t (c .laid) n (c .count)
-
   pub image-whole : length (tableImage t) ≡ firstBody form + length (concatMap (idBytes product form) (filled t))
   image-whole = image-length product form proper (filled t) ∙ ap (λ m. firstBody form + length m) (bodies-all (filled t) counted-facts)
 
   -- Two searches, for the first word with two ids and the first with three.
   module _ (ones twos : ℕ) (f : ones ≡ below (take n t) (wordOf 5 0 0 0)) (g : twos ≡ below (take n t) (wordOf 10 0 0 0)) where
     pub ones-within : ones ≤ n
-    ones-within = omega (arith, f, first-within t n (wordOf 5 0 0 0) (ready .0) (ready .1))
+    ones-within = omega (arith, f, first-within t n (wordOf 5 0 0 0) (counted-ready t n c .0) (counted-ready t n c .1))
 
     pub twos-within : twos ≤ n
-    twos-within = omega (arith, g, first-within t n (wordOf 10 0 0 0) (ready .0) (ready .1))
+    twos-within = omega (arith, g, first-within t n (wordOf 10 0 0 0) (counted-ready t n c .0) (counted-ready t n c .1))
 
     pub image-counted : firstBody form + (n + (n - ones) + (n - twos)) ≡ length (tableImage t)
     image-counted =

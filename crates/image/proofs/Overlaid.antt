@@ -1,17 +1,12 @@
 -- An image written over lent bytes, from its first byte on. Assumes nothing.
-use Prim.Native.Nat.{ℕ, suc, _+_, _≤_}
+use Prim.Native.Nat.{ℕ, suc, _+_, _-_, _≤_}
 use mathlib.Core.Path.{_≡_, refl, sym, ap, _∙_}
 use mathlib.Core.List.{List, [], _∷_, _++_, append-assoc}
 use native.Mathlib.Omega.{arith}
 use native.Mathlib.Numerals.{add-one}
 use lib.ListN.{length, set, take, drop, length-append, length-drop}
 use lib.Seq.{take-at, drop-at, drop-drop, drop-append-add, take-add, take-length, length-take-le, sets-eq}
-use Rattle.image.specs.Writing.{over}
-
--- The first `at` bytes are the image's; the others are as they were.
-pub record Overlaid (image out₀ out : List ℕ) (at : ℕ) : Type 0 where
-  pub within : at ≤ length image
-  pub so-far : out ≡ take at image ++ drop at out₀
+use Rattle.image.specs.Writing.{over, Overlaid}
 
 module _ {image out₀ out : List ℕ} {at : ℕ} (o : Overlaid image out₀ out at) where
   firsts : length (take at image) ≡ at
@@ -19,6 +14,17 @@ module _ {image out₀ out : List ℕ} {at : ℕ} (o : Overlaid image out₀ out
 
   pub overlaid-length : length image ≤ length out₀ → length out ≡ length out₀
   overlaid-length room = ap length (o .so-far) ∙ (length-append (take at image) (drop at out₀) ∙ omega (arith, firsts, length-drop at out₀, o .within, room))
+
+  pub overlaid-after : (n : ℕ) → drop (at + n) out ≡ drop (at + n) out₀
+  overlaid-after n =
+      let place : at + n ≡ length (take at image) + n = omega (arith, firsts) in
+      ap (drop (at + n)) (o .so-far) ∙ (ap (λ m. drop m (take at image ++ drop at out₀)) place ∙ (drop-append-add (take at image) (drop at out₀) n ∙ drop-drop n at out₀))
+
+  -- More of it over what is there now.
+  pub overlaid-trans : {out′ : List ℕ} {end : ℕ} → Overlaid image out out′ end → at ≤ end → Overlaid image out₀ out′ end
+  overlaid-trans {end = end} p h =
+      let split : at + (end - at) ≡ end = omega arith in
+      record { within = p .within; so-far = p .so-far ∙ ap (λ l. take end image ++ l) (ap (λ n. drop n out) (sym split) ∙ (overlaid-after (end - at) ∙ ap (λ n. drop n out₀) split)) }
 
   -- The same over the bytes as they are now.
   pub overlaid-self : Overlaid image out out at
@@ -28,13 +34,10 @@ module _ {image out₀ out : List ℕ} {at : ℕ} (o : Overlaid image out₀ out
   overlaid-more new rest e out′ q =
       let n : ℕ = length new in
       let low : take at out ≡ take at image = ap (take at) (o .so-far) ∙ take-at (take at image) (drop at out₀) at firsts in
-      let place : at + n ≡ length (take at image) + n = omega (arith, firsts) in
-      let high : drop (at + n) out ≡ drop (at + n) out₀ =
-      ap (drop (at + n)) (o .so-far) ∙ (ap (λ m. drop m (take at image ++ drop at out₀)) place ∙ (drop-append-add (take at image) (drop at out₀) n ∙ drop-drop n at out₀)) in
       let more : take (at + n) image ≡ take at image ++ new = take-add at n image ∙ ap (λ l. take at image ++ l) (ap (take n) e ∙ take-at new rest n refl) in
       record {
         within = omega (arith, o .within, length-drop at image, ap length e, length-append new rest);
-        so-far = q ∙ (ap (λ l. l ++ (new ++ drop (at + n) out)) low ∙ (ap (λ l. take at image ++ (new ++ l)) high
+        so-far = q ∙ (ap (λ l. l ++ (new ++ drop (at + n) out)) low ∙ (ap (λ l. take at image ++ (new ++ l)) (overlaid-after n)
             ∙ (sym (append-assoc (take at image) new (drop (at + n) out₀)) ∙ ap (λ l. l ++ drop (at + n) out₀) (sym more))));
       }
 

@@ -1,5 +1,5 @@
 -- A number and an id in the product's form, by the bytes of their places. Assumes nothing.
-use Prim.Native.Nat.{ℕ, suc, _+_, _*_, _≤_}
+use Prim.Native.Nat.{ℕ, suc, _+_, _*_, _≤_, _<_}
 use mathlib.Core.Path.{_≡_, sym, ap, _∙_}
 use mathlib.Core.Bool.{Bool, true, false, cond}
 use mathlib.Core.List.{List, [], _∷_}
@@ -8,6 +8,7 @@ use native.Mathlib.Decide.{decLt}
 use lib.Dec.{eqb, leb, lit≤}
 use lib.ListN.{length, getD, take, drop, drop-of-length-le, List·getD-eq-default}
 use lib.Seq.{drop-cons}
+use borrow.Author.Tests.{ne-eqb, le-leb, lt-leb}
 use Rattle.rdfs.specs.Numbers.{arity}
 use Rattle.rdfs.specs.Numbers.{product}
 use Rattle.table.specs.Parts.{wordOf}
@@ -33,6 +34,15 @@ either n false x y p q = q
 pub arity-few : (k : ℕ) → arity k ≤ 3
 arity-few k =
     either 3 (eqb k 0) 0 _ (lit≤ tt) (either 3 (leb k 4) 1 _ (lit≤ tt) (either 3 (leb k 9) 2 _ (lit≤ tt) (either 3 (eqb k 10) 3 0 (lit≤ tt) (lit≤ tt))))
+
+-- How many ids a kind has.
+pub arity-one : (k : ℕ) → 1 ≤ k → k < 5 → arity k ≡ 1
+arity-one k a b = ap (λ e. cond e 0 (cond (leb k 4) 1 (cond (leb k 9) 2 (cond (eqb k 10) 3 0)))) (ne-eqb k 0 (omega arith)) ∙ ap (λ e. cond e 1 (cond (leb k 9) 2 (cond (eqb k 10) 3 0))) (le-leb k 4 (omega arith))
+
+pub arity-two : (k : ℕ) → 5 ≤ k → k < 10 → arity k ≡ 2
+arity-two k a b =
+    ap (λ e. cond e 0 (cond (leb k 4) 1 (cond (leb k 9) 2 (cond (eqb k 10) 3 0)))) (ne-eqb k 0 (omega arith))
+    ∙ (ap (λ e. cond e 1 (cond (leb k 9) 2 (cond (eqb k 10) 3 0))) (lt-leb k 4 (omega arith)) ∙ ap (λ e. cond e 2 (cond (eqb k 10) 3 0)) (le-leb k 9 (omega arith)))
 
 id-one : (bytes : List ℕ) (p i : ℕ) → idAt form bytes p i ≡ getD bytes (p + i) 0
 id-one bytes p i = let same : p + i * 1 ≡ p + i = omega arith in number-one bytes (p + i * 1) ∙ ap (λ n. getD bytes n 0) same

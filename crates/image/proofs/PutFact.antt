@@ -22,8 +22,11 @@ single [] = refl
 single (x ∷ l) = ap (λ m. x ∷ m) (single l)
 
 module _ (w : ℕ) (f : T (isFact product w)) where
+  pub kind-bounds : (1 ≤ kindOf w) × (kindOf w ≤ 10)
+  kind-bounds = let s = tests-fact w (kindOf w) (firstOf w) (secondOf w) (thirdOf w) refl refl refl refl .sound f .0 in (s .some, s .most)
+
   pub word-kind : IsKind (kindOf w)
-  word-kind = let s = tests-fact w (kindOf w) (firstOf w) (secondOf w) (thirdOf w) refl refl refl refl .sound f .0 in is-kind (kindOf w) (s .some) (s .most)
+  word-kind = is-kind (kindOf w) (kind-bounds .0) (kind-bounds .1)
 
   -- As many ids as the kind has.
   pub fact-bytes : (n : ℕ) → arity (kindOf w) ≡ n → idBytes product form w ≡ take n (firstOf w ∷ secondOf w ∷ thirdOf w ∷ [])

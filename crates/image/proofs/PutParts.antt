@@ -4,22 +4,21 @@ use mathlib.Core.Path.{_≡_, refl, sym, ap, subst, _∙_}
 use mathlib.Core.List.{List, [], _∷_, _++_, append-assoc}
 use native.Mathlib.Omega.{arith}
 use native.Mathlib.Numerals.{add-one}
-use lib.Dec.{T, lit<}
+use lib.Dec.{lit<}
 use lib.ListN.{length, getD, set, take, drop, length-append, length-drop, drop-of-length-le, take-append-drop}
-use lib.Seq.{drop-at, drop-drop, drop-cons, drop-set-lt, getD-take}
+use lib.Seq.{drop-at, drop-drop, drop-cons, drop-set-lt}
 use Rattle.rdfs.specs.Numbers.{product}
 use Rattle.rdfs.specs.Lists.{concatMap}
-use Rattle.rdfs.specs.Words.{isFact, filled}
-use Rattle.rdfs.proofs.LaidOut.{laid-is-fact}
-use Rattle.table.proofs.Filled.{at-in, counted-filled}
+use Rattle.rdfs.specs.Words.{filled}
 use Rattle.image.specs.Form.{form, factSize, entrySize, entryAt, firstBody, kindsAfter, kinds}
 use Rattle.image.specs.Image.{ofKind, idBytes, bodies, entry, contents, imageOf}
 use Rattle.image.specs.Calls.{tableImage}
-use Rattle.image.specs.Writing.{Counted, over}
+use Rattle.image.specs.Writing.{Counted, over, Overlaid, Embodied}
 use Rattle.image.proofs.ImageRead.{entry-length, image-parts, bodies-at, image-length}
 use Rattle.image.proofs.Linking.{kinds-more}
+use Rattle.image.proofs.KindCount.{counted-word}
 use Rattle.image.proofs.Measuring.{counted-facts, bodies-all, image-whole, Measured, measured-start, measured-more}
-use Rattle.image.proofs.Overlaid.{Overlaid, overlaid-length, overlaid-self, overlaid-more, overlaid-all, two-stores}
+use Rattle.image.proofs.Overlaid.{overlaid-length, overlaid-self, overlaid-trans, overlaid-more, overlaid-all, two-stores}
 use Rattle.image.proofs.Product.{proper}
 
 image-head : (l : List ℕ) → drop 0 (imageOf product form l) ≡ (form .edition ∷ form .entries ∷ []) ++ (contents product form l (firstBody form) (kinds form) ++ bodies product form l (kinds form))
@@ -79,11 +78,13 @@ module _ {l out₀ out : List ℕ} {done start : ℕ} (e : Entered l out₀ out 
 pub entered-done : (l out : List ℕ) {out′ : List ℕ} {done start : ℕ} → Entered l (headed out) out′ done start → form .entries ≤ done → out′ ≡ take (firstBody form) (imageOf product form l) ++ drop (firstBody form) out
 entered-done l out e h = entered-all e h ∙ ap (λ m. take (firstBody form) (imageOf product form l) ++ m) (drop-set-lt (firstBody form) (set out 0 (form .edition)) 1 (form .entries) (lit< tt) ∙ drop-set-lt (firstBody form) out 0 (form .edition) (lit< tt))
 
--- The ids of the first i facts are stored.
-pub record Embodied (l out₀ out : List ℕ) (i at : ℕ) : Type 0 where
-  pub within : i ≤ length l
-  pub laid : Overlaid (imageOf product form l) out₀ out at
-  pub rest : drop at (imageOf product form l) ≡ concatMap (idBytes product form) (drop i l)
+-- Facts stored behind those that are stored, and the same over the bytes as they are now.
+module _ {l out₀ out : List ℕ} {i at : ℕ} (e : Embodied l out₀ out i at) where
+  pub embodied-self : Embodied l out out i at
+  embodied-self = record { within = e .within; laid = overlaid-self (e .laid); rest = e .rest }
+
+  pub embodied-trans : {out′ : List ℕ} {j end : ℕ} → Embodied l out out′ j end → at ≤ end → Embodied l out₀ out′ j end
+  embodied-trans p h = record { within = p .within; laid = overlaid-trans (e .laid) (p .laid) h; rest = p .rest }
 
 module _ (t : List ℕ) (n : ℕ) (c : Counted t n) where
   pub embodied-start : (out : List ℕ) → take (firstBody form) out ≡ take (firstBody form) (tableImage t) → Embodied (filled t) out out 0 (firstBody form)
@@ -101,16 +102,10 @@ module _ (t : List ℕ) (n : ℕ) (c : Counted t n) where
       below : i < length (filled t)
       below = omega (arith, h, c .count)
 
-      there : word ≡ getD (filled t) i 0
-      there = sym (getD-take n t i 0 h) ∙ ap (λ m. getD m i 0) (counted-filled product t (c .laid) n (c .count))
-
-      pub embodied-fact : T (isFact product word)
-      embodied-fact = subst (λ w. T (isFact product w)) (sym there) (laid-is-fact product t (c .laid) (getD (filled t) i 0) (at-in (filled t) i below))
-
       split : drop at (tableImage t) ≡ idBytes product form word ++ concatMap (idBytes product form) (drop (i + 1) (filled t))
       split =
           let next : drop i (filled t) ≡ word ∷ drop (i + 1) (filled t) =
-          drop-cons (filled t) i 0 below ∙ (ap (λ w. w ∷ drop (suc i) (filled t)) (sym there) ∙ ap (λ m. word ∷ drop m (filled t)) (sym (add-one i))) in
+          drop-cons (filled t) i 0 below ∙ (ap (λ w. w ∷ drop (suc i) (filled t)) (sym (counted-word t n c i h)) ∙ ap (λ m. word ∷ drop m (filled t)) (sym (add-one i))) in
           e .rest ∙ ap (concatMap (idBytes product form)) next
 
       pub embodied-room : length (tableImage t) ≤ length out₀ → at + length (idBytes product form word) ≤ length out

@@ -4,14 +4,14 @@ ghost use mathlib.Core.List.{_++_};
 ghost use Prim.Native.Nat.{_+_, _/_, _%_, _≤_, _<_};
 ghost use lib.Dec.{T};
 ghost use lib.ListN.{length, set, take, drop};
-ghost use Rattle.rdfs.specs.Numbers.{product};
-ghost use Rattle.rdfs.specs.Words.{isFact};
+ghost use Rattle.rdfs.specs.Numbers.{product, arity};
+ghost use Rattle.rdfs.specs.Words.{isFact, filled};
 ghost use Rattle.table.specs.Found.{below};
-ghost use Rattle.table.specs.Parts.{wordOf};
+ghost use Rattle.table.specs.Parts.{kindOf, wordOf};
 ghost use Rattle.image.specs.Form.{form, byteValues, fieldValues, entryAt, firstBody};
 ghost use Rattle.image.specs.Image.{idBytes, entry};
 ghost use Rattle.image.specs.Calls.{tableImage};
-ghost use Rattle.image.specs.Writing.{Counted, over};
+ghost use Rattle.image.specs.Writing.{Counted, Run, Embodied, over};
 use crate::form::BYTE;
 use crate::form::EDITION;
 use crate::form::ENTRIES;
@@ -24,10 +24,8 @@ use crate::form::fact_size;
 use table::LITERAL;
 use table::MEMBER;
 use table::Word;
-use table::arity_of;
 use table::count_below;
 use table::first_of;
-use table::kind_of;
 use table::second_of;
 use table::third_of;
 use table::word_of;
@@ -95,34 +93,45 @@ pub fn put_contents(t: &[Word], n: usize, output: &mut [u8])
     }
 }
 
-// Stores the ids of a fact, and answers the place after them.
-fn put_fact(output: &mut [u8], at: usize, w: Word) -> usize
-    requires { ⌜ T (isFact product w) × (at + length (idBytes product form w) ≤ length (now output)) ⌝ }
+// Stores the ids of a fact that has `ids` of them, and answers the place after them.
+fn put_fact(output: &mut [u8], at: usize, w: Word, ids: Word) -> usize
+    requires { ⌜ T (isFact product w) × (at + length (idBytes product form w) ≤ length (now output)) × (ids ≡ arity (kindOf w)) ⌝ }
     ensures { λ r. ⌜ (r ≡ at + length (idBytes product form w)) × (now (output .exit) ≡ over (now (output .entry)) at (idBytes product form w)) ⌝ }
 {
-    let k = kind_of(w);
-    let n = arity_of(k);
     output[at] = first_of(w) as u8;
-    if n == 1 {
+    if ids == 1 {
         return at + 1;
     }
     output[at + 1] = second_of(w) as u8;
-    if n == 2 {
+    if ids == 2 {
         return at + 2;
     }
     output[at + 2] = third_of(w) as u8;
     at + 3
 }
 
-// Stores the bodies of a table's image, behind its contents.
+// Stores the facts from place `from` up to place `to`, which have `ids` ids each, from byte `start` on. Answers the place after them.
+fn put_run(t: &[Word], from: usize, to: usize, ids: Word, output: &mut [u8], start: usize) -> usize
+    requires { ⌜ Counted (now t) (length (filled (now t))) × Run (now t) from to ids × Embodied (filled (now t)) (now output) (now output) from start × (length (tableImage (now t)) ≤ length (now output)) ⌝ }
+    ensures { λ r. ⌜ Embodied (filled (now (t .entry))) (now (output .entry)) (now (output .exit)) to r × (start ≤ r) ⌝ }
+{
+    let mut i = from;
+    let mut at = start;
+    while i < to {
+        at = put_fact(output, at, t[i], ids);
+        i += 1;
+    }
+    at
+}
+
+// Stores the bodies of a table's image, behind its contents: the facts of one id, of two and of three.
 pub fn put_bodies(t: &[Word], n: usize, output: &mut [u8])
     requires { ⌜ Counted (now t) n × (length (tableImage (now t)) ≤ length (now output)) × (take (firstBody form) (now output) ≡ take (firstBody form) (tableImage (now t))) ⌝ }
     ensures { λ _. ⌜ now (output .exit) ≡ tableImage (now (t .entry)) ++ drop (length (tableImage (now (t .entry)))) (now (output .entry)) ⌝ }
 {
-    let mut i = 0;
-    let mut at = FIRST_BODY;
-    while i < n {
-        at = put_fact(output, at, t[i]);
-        i += 1;
-    }
+    let ones = count_to(t, n, LITERAL);
+    let twos = count_to(t, n, MEMBER);
+    let second = put_run(t, 0, ones, 1, output, FIRST_BODY);
+    let third = put_run(t, ones, twos, 2, output, second);
+    put_run(t, twos, n, 3, output, third);
 }

@@ -1,8 +1,6 @@
 -- `writer::image_length`: as many ids as the facts of one, of two and of three ids have. Assumes nothing.
 use native.Mathlib.Omega.{arith}
-use mathlib.Core.Path.{_∙_}
 use Rattle.image.proofs.Measuring.{ones-within, twos-within, image-counted, image-small}
-use borrow.Author.Needs.{needs}
 use Rattle.image.proofs.writer.image_length.Statement.{statement}
 use Rattle.image.proofs.writer.image_length.Tie as tie
 

@@ -1,62 +1,82 @@
--- `writer::put_bodies`. The loop's invariant is `Embodied`: the ids of the first i facts are stored. The measure is the number of facts left. Assumes nothing.
+-- `writer::put_bodies`: three runs, one behind the other. Assumes nothing.
 use native.Mathlib.Omega.{arith}
-use Prim.Native.Nat.{_-_}
-use Rattle.rdfs.specs.Words.{filled}
-use Rattle.table.proofs.Filled.{filled-within}
-use Rattle.rdfs.specs.Numbers.{product}
 use Rattle.image.proofs.Overlaid.{overlaid-length}
-use Rattle.image.proofs.PutParts.{Embodied, embodied-start, embodied-fact, embodied-room, embodied-more, embodied-all}
+use Rattle.image.proofs.PutParts.{embodied-start, embodied-self, embodied-trans, embodied-all}
+use Rattle.image.proofs.Runs.{own-count, run-ones, run-twos, run-threes}
+use borrow.Author.Needs.{needs}
 use Rattle.image.proofs.writer.put_bodies.Statement.{statement}
 use Rattle.image.proofs.writer.put_bodies.Tie as tie
 
-abbrev Inv-loop : tie.InvT-loop
-Inv-loop t n output₀ i₀ at₀ output i at = Embodied (filled t) output₀ output i at
+count-to-requires : tie.Need-count-to-requires
+count-to-requires c κs = (c .before .before .pre .0, omega arith)
 
-abbrev μ-loop : tie.MeasureT-loop
-μ-loop t n output₀ i₀ at₀ output i at = n - i
+count-to-requires-2 : tie.Need-count-to-requires-2
+count-to-requires-2 c κs = (c .before .before .before .pre .0, omega arith)
 
-loop-holds : tie.Need-loop-holds Inv-loop μ-loop
-loop-holds c = embodied-start (c .before .before .args .t .now) (c .before .before .args .n) (c .before .before .pre .0) _ (c .before .before .pre .2)
+put-run-requires : tie.Need-put-run-requires
+put-run-requires c κs =
+    let at-twos = c .before in
+    let at-ones = at-twos .before in
+    let s = at-ones .before .before .before in
+    let t = s .args .t .now in
+    let n = s .args .n in (
+      own-count t n (s .pre .0),
+      run-ones t n (s .pre .0) (at-ones .count-to .result) (at-twos .count-to2 .result) (at-ones .count-to .ensures) (at-twos .count-to2 .ensures),
+      embodied-start t n (s .pre .0) (s .args .output .now) (s .pre .2),
+      s .pre .1,
+    )
 
-mul-put-fact : tie.Need-mul-put-fact Inv-loop μ-loop
-mul-put-fact c = omega (arith, c .before .loop-test .taken, c .before .before .before .before .before .pre .0 .count, filled-within product (c .before .before .before .before .before .args .t .now) (c .before .before .before .before .before .pre .0 .laid))
+put-run-requires-2 : tie.Need-put-run-requires-2
+put-run-requires-2 c κs =
+    let at-first = c .before .before .before in
+    let at-twos = at-first .before .before in
+    let at-ones = at-twos .before in
+    let s = at-ones .before .before .before in
+    let t = s .args .t .now in
+    let n = s .args .n in
+    let first = at-first .put-run .ensures .0 in (
+      own-count t n (s .pre .0),
+      run-twos t n (s .pre .0) (at-ones .count-to .result) (at-twos .count-to2 .result) (at-ones .count-to .ensures) (at-twos .count-to2 .ensures),
+      embodied-self first,
+      omega (arith, s .pre .1, overlaid-length (first .laid) (s .pre .1)),
+    )
 
-shared-slice-read-put-fact : tie.Need-shared-slice-read-put-fact Inv-loop μ-loop
-shared-slice-read-put-fact c = omega (arith, c .before .before .loop-test .taken, c .before .before .before .before .before .before .pre .0 .count, filled-within product (c .before .before .before .before .before .before .args .t .now) (c .before .before .before .before .before .before .pre .0 .laid))
+put-run-requires-3 : tie.Need-put-run-requires-3
+put-run-requires-3 c κs =
+    let at-second = c .before .before .before in
+    let at-first = at-second .before .before .before .before in
+    let at-twos = at-first .before .before in
+    let at-ones = at-twos .before in
+    let s = at-ones .before .before .before in
+    let t = s .args .t .now in
+    let n = s .args .n in
+    let both = embodied-trans (at-first .put-run .ensures .0) (at-second .put-run2 .ensures .0) (at-second .put-run2 .ensures .1) in (
+      own-count t n (s .pre .0),
+      run-threes t n (s .pre .0) (at-ones .count-to .result) (at-twos .count-to2 .result) (at-ones .count-to .ensures) (at-twos .count-to2 .ensures),
+      embodied-self both,
+      omega (arith, s .pre .1, overlaid-length (both .laid) (s .pre .1)),
+    )
 
-put-fact-requires : tie.Need-put-fact-requires Inv-loop μ-loop
-put-fact-requires c κs =
-    let t = c .before .before .before .before .before .before .args .t .now in
-    let n = c .before .before .before .before .before .before .args .n in
-    (embodied-fact t n (c .before .before .before .before .before .before .pre .0) (c .before .before .before .loop .inv) (c .before .before .loop-test .taken), embodied-room t n (c .before .before .before .before .before .before .pre .0) (c .before .before .before .loop .inv) (c .before .before .loop-test .taken) (c .before .before .before .before .before .before .pre .1))
+same-length : tie.Need-same-length
+same-length c = search needs
 
-add-i : tie.Need-add-i Inv-loop μ-loop
-add-i c = omega (arith, c .before .before .before .before .before .loop-test .taken)
-
-loop-less : tie.Need-loop-less Inv-loop μ-loop
-loop-less c = omega (arith, c .before .before .before .before .before .loop-test .taken)
-
-loop-again : tie.Need-loop-again Inv-loop μ-loop
-loop-again c = embodied-more (c .before .before .before .before .before .before .before .before .before .args .t .now) (c .before .before .before .before .before .before .before .before .before .args .n) (c .before .before .before .before .before .before .before .before .before .pre .0) (c .before .before .before .before .before .before .loop .inv) (c .before .before .before .before .before .loop-test .taken) _ _ (c .before .before .put-fact .ensures .0) (c .before .before .put-fact .ensures .1)
-
-same-length : tie.Need-same-length Inv-loop μ-loop
-same-length c = overlaid-length (c .before .loop .inv .laid) (c .before .before .before .before .pre .1)
-
-returns : tie.Need-returns Inv-loop μ-loop
-returns c = embodied-all (c .before .before .before .before .args .t .now) (c .before .before .before .before .args .n) (c .before .before .before .before .pre .0) (c .before .loop .inv) (c .loop-test .left)
+returns : tie.Need-returns
+returns c =
+    let at-third = c .before .before in
+    let at-second = at-third .before .before .before .before in
+    let at-first = at-second .before .before .before .before in
+    let s = at-first .before .before .before .before .before .before in
+    let both = embodied-trans (at-first .put-run .ensures .0) (at-second .put-run2 .ensures .0) (at-second .put-run2 .ensures .1) in
+    embodied-all (s .args .t .now) (s .args .n) (s .pre .0) (embodied-trans both (at-third .put-run3 .ensures .0) (at-third .put-run3 .ensures .1)) (omega arith)
 
 pub put-bodies-spec : {M : Type 1} → statement M
 put-bodies-spec =
     tie.close
     (tie.spec
-    Inv-loop
-    μ-loop
-    loop-holds
-    mul-put-fact
-    shared-slice-read-put-fact
-    put-fact-requires
-    add-i
-    loop-less
-    loop-again
+    count-to-requires
+    count-to-requires-2
+    put-run-requires
+    put-run-requires-2
+    put-run-requires-3
     same-length
     returns)
