@@ -1,6 +1,7 @@
 -- A walk up a table while its words are facts, each above the one before, and a walk while they are zeros. Assumes nothing.
-use Prim.Native.Nat.{ℕ, suc, _+_, _≤_, _<_}
+use Prim.Native.Nat.{ℕ, zero, suc, _+_, _≤_, _<_}
 use mathlib.Core.Path.{_≡_, refl, sym, ap, _∙_}
+use mathlib.Core.Logic.{_⊎_, inl, inr, ⊎-elim}
 use mathlib.Core.Bool.{Bool, true, false, _&&_, cond}
 use mathlib.Core.List.{List, [], _∷_}
 use native.Mathlib.Omega.{arith}
@@ -69,11 +70,36 @@ module _ {t : List ℕ} {i last : ℕ} (k : Walk t i last) where
 
 -- Zeros from a place on.
 module _ (t : List ℕ) (i : ℕ) where
-  pub zeros-more : i < length t → getD t i 0 ≡ 0 → zeros (drop i t) ≡ zeros (drop (i + 1) t)
+  zeros-more : i < length t → getD t i 0 ≡ 0 → zeros (drop i t) ≡ zeros (drop (i + 1) t)
   zeros-more h e = ap zeros (drop-cons t i 0 h) ∙ (ap (λ n. eqb n 0 && zeros (drop (suc i) t)) e ∙ ap (λ n. zeros (drop n t)) (sym (add-one i)))
 
-  pub zeros-stop : i < length t → (getD t i 0 ≡ 0 → ⊥) → zeros (drop i t) ≡ false
+  zeros-stop : i < length t → (getD t i 0 ≡ 0 → ⊥) → zeros (drop i t) ≡ false
   zeros-stop h n = ap zeros (drop-cons t i 0 h) ∙ ap (λ b. b && zeros (drop (suc i) t)) (ne-eqb (getD t i 0) 0 n)
 
-  pub zeros-end : length t ≤ i → zeros (drop i t) ≡ true
+  zeros-end : length t ≤ i → zeros (drop i t) ≡ true
   zeros-end h = ap zeros (drop-of-length-le t h)
+
+-- The highest of the words from n up to i: while it is 0, the words from n on are zeros if those from i on are.
+pub record Highest (t : List ℕ) (n i highest : ℕ) : Type 0 where
+  pub none : highest ≡ 0 → zeros (drop n t) ≡ zeros (drop i t)
+  pub some : 0 < highest → zeros (drop n t) ≡ false
+
+pub highest-start : (t : List ℕ) (n : ℕ) → Highest t n n 0
+highest-start t n = record { none = λ e. refl; some = λ h. absurd (omega arith) }
+
+module _ {t : List ℕ} {n i highest : ℕ} (k : Highest t n i highest) where
+  pub highest-more : i < length t → getD t i 0 ≤ highest → Highest t n (i + 1) highest
+  highest-more h l = record { none = λ e. k .none e ∙ zeros-more t i h (omega arith); some = k .some }
+
+  pub highest-higher : i < length t → highest < getD t i 0 → Highest t n (i + 1) (getD t i 0)
+  highest-higher h l = record {
+    none = λ e. absurd (omega arith);
+    some = λ p. ⊎-elim (λ e. k .none e ∙ zeros-stop t i h (λ z. omega arith)) (λ q. k .some q) (zero-or-more highest);
+  }
+    where
+      zero-or-more : (m : ℕ) → (m ≡ 0) ⊎ (0 < m)
+      zero-or-more zero = inl refl
+      zero-or-more (suc m) = inr (omega arith)
+
+  pub highest-zero : length t ≤ i → highest ≡ 0 → zeros (drop n t) ≡ true
+  highest-zero h e = k .none e ∙ zeros-end t i h

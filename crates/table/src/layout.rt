@@ -51,18 +51,23 @@ fn count_rising(t: &[Word]) -> usize
     i
 }
 
-// Whether the words from place n on are zeros.
+// Whether the words from place n on are zeros, by the highest of them: with no return from the loop it is compiled to several words at a time.
 fn is_zero_from(t: &[Word], n: usize) -> bool
     ensures { λ r. ⌜ r ≡ zeros (drop n (now (t .entry))) ⌝ }
 {
+    let mut highest: Word = 0;
     let mut i = n;
     while i < t.len() {
-        if t[i] != 0 {
-            return false;
+        let w = t[i];
+        if highest < w {
+            highest = w;
         }
         i += 1;
     }
-    true
+    if highest == 0 {
+        return true;
+    }
+    false
 }
 
 // Whether a table is laid out: facts ascending, none twice, then zeros to the end.

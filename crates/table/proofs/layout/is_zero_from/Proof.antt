@@ -1,33 +1,28 @@
--- `layout::is_zero_from`. The loop's invariant: the words from n on are zeros if those from i on are. The measure is the number of words left. Assumes nothing.
-use denote.Ref.{now}
+-- `layout::is_zero_from`. The loop's invariant: `highest` is the highest word from n up to i. The measure is the number of words left.
+-- Assumes nothing.
 use Prim.Native.Nat.{_-_}
-use mathlib.Core.Path.{_≡_, refl, sym, _∙_}
+use mathlib.Core.Path.{sym}
+use mathlib.Core.Logic.{⊎-elim}
 use native.Mathlib.Omega.{arith}
-use lib.ListN.{length, drop}
-use Rattle.table.specs.Layout.{zeros}
-use Rattle.table.proofs.Rising.{zeros-more, zeros-stop, zeros-end}
+use lib.ListN.{length}
+use Rattle.table.proofs.Rising.{Highest, highest-start, highest-more, highest-higher, highest-zero}
 use Rattle.table.proofs.layout.is_zero_from.Statement.{statement}
 use Rattle.table.proofs.layout.is_zero_from.Tie as tie
 
 abbrev Inv-loop : tie.InvT-loop
-Inv-loop t n i₀ i = zeros (drop n t) ≡ zeros (drop i t)
+Inv-loop t n highest₀ i₀ highest i = Highest t n i highest
 
 abbrev μ-loop : tie.MeasureT-loop
-μ-loop t n i₀ i = length t - i
+μ-loop t n highest₀ i₀ highest i = length t - i
 
 loop-holds : tie.Need-loop-holds Inv-loop μ-loop
-loop-holds c = refl
+loop-holds c = highest-start _ _
 
-mul-if1 : tie.Need-mul-if1 Inv-loop μ-loop
-mul-if1 c = omega arith
+mul-w : tie.Need-mul-w Inv-loop μ-loop
+mul-w c = omega arith
 
-shared-slice-read-if1 : tie.Need-shared-slice-read-if1 Inv-loop μ-loop
-shared-slice-read-if1 c = omega arith
-
-returns : tie.Need-returns Inv-loop μ-loop
-returns c =
-    let at = c .before .before .before in
-    sym (at .loop .inv ∙ zeros-stop (now (at .before .args .t)) (at .loop .i) (c .before .before .loop-test .taken) (c .if1 .taken))
+shared-slice-read-w : tie.Need-shared-slice-read-w Inv-loop μ-loop
+shared-slice-read-w c = omega arith
 
 add-i : tie.Need-add-i Inv-loop μ-loop
 add-i c = omega arith
@@ -37,13 +32,17 @@ loop-less c = omega arith
 
 loop-again : tie.Need-loop-again Inv-loop μ-loop
 loop-again c =
-    let at = c .before .before .before in
-    at .loop .inv ∙ zeros-more (now (at .before .args .t)) (at .loop .i) (c .before .before .loop-test .taken) (c .if1 .left)
+    let turn = c .before .before .before in
+    ⊎-elim
+    (λ k. rw (k .1) (highest-higher (turn .loop .inv) (c .before .before .loop-test .taken) (k .0 .taken)))
+    (λ k. rw (k .1) (highest-more (turn .loop .inv) (c .before .before .loop-test .taken) (k .0 .left)))
+    (c .if1 .came)
+
+returns : tie.Need-returns Inv-loop μ-loop
+returns c = sym (highest-zero (c .before .before .loop .inv) (c .before .loop-test .left) (c .if2 .taken))
 
 returns-2 : tie.Need-returns-2 Inv-loop μ-loop
-returns-2 c =
-    let at = c .before in
-    sym (at .loop .inv ∙ zeros-end (now (at .before .args .t)) (at .loop .i) (c .loop-test .left))
+returns-2 c = sym (c .before .before .loop .inv .some (omega arith))
 
 pub is-zero-from-spec : {M : Type 1} → statement M
 is-zero-from-spec =
@@ -52,10 +51,10 @@ is-zero-from-spec =
     Inv-loop
     μ-loop
     loop-holds
-    mul-if1
-    shared-slice-read-if1
-    returns
+    mul-w
+    shared-slice-read-w
     add-i
     loop-less
     loop-again
+    returns
     returns-2)
