@@ -1,0 +1,49 @@
+// For the benchmark: reads an image from standard input, checks its table again and again, and prints how many of the checks accepted it. For a
+// refused image it prints nothing.
+use consistency::check;
+use image::FIRST_BODY;
+use image::LARGEST_FACT;
+use image::read;
+use libc::STDIN_FILENO;
+use libc::STDOUT_FILENO;
+use table::CLASS;
+use table::MOST;
+use table::RESOURCE;
+use table::Word;
+use table::word_of;
+
+// No image of a table is longer.
+const LONGEST: usize = FIRST_BODY + LARGEST_FACT * MOST;
+// How often the table is checked.
+const ROUNDS: u64 = 20000;
+
+// How many of the checks accept the table. The first word of a consistent table is stored each time, so that no check can stand for the next.
+fn count_accepted(t: &mut [Word; MOST]) -> u64 {
+    let mut done = 0;
+    let mut accepted = 0;
+    while done < ROUNDS {
+        t[0] = word_of(CLASS, RESOURCE, 0, 0);
+        if check(t) == 0 {
+            accepted += 1;
+        }
+        done += 1;
+    }
+    accepted
+}
+
+fn main() {
+    let mut input = [0u8; LONGEST + 1];
+    let n = io::read_full(STDIN_FILENO, &mut input);
+    if LONGEST < n {
+        return;
+    }
+    let zero: Word = 0;
+    let mut t = [zero; MOST];
+    let answer = read(&mut t, &input[..n]);
+    if answer != 0 {
+        return;
+    }
+    let accepted = count_accepted(&mut t);
+    io::print_decimal(STDOUT_FILENO, accepted);
+    io::write_all(STDOUT_FILENO, b"\n");
+}
