@@ -15,7 +15,7 @@ use table::word_of;
 // No image of a table is longer.
 const LONGEST: usize = FIRST_BODY + LARGEST_FACT * MOST;
 // How often the table is checked.
-const ROUNDS: u64 = 20000;
+const ROUNDS: u64 = 5000;
 
 // How many of the checks accept the table. The first word of a consistent table is stored each time, so that no check can stand for the next.
 fn count_accepted(t: &mut [Word; MOST]) -> u64 {

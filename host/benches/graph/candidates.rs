@@ -1,11 +1,12 @@
 //! What is measured: the proved implementation and the two rivals, each by its calls and as a program.
 
+use crate::checks;
 use crate::rivals::bit_rows::BitRows;
 use crate::rivals::sorted::Sorted;
 use crate::rivals::{host_call, program, Rival};
 use std::env;
 use std::io::{stdin, stdout, Result};
-use std::path::PathBuf;
+use std::path::{Path, PathBuf};
 use std::process::Command;
 use vimelosa_host::call_raw;
 
@@ -17,18 +18,24 @@ pub const NAMES: [&str; 3] = ["proved", "sorted", "bit rows"];
 
 pub const HOST_CALLS: [HostCall; 3] = [call_raw, host_call::<Sorted>, host_call::<BitRows>];
 
-/// The rivals' checks of a table. The proved check does not cross the C interface by itself.
-pub const CHECKS: [fn(&[u32]) -> u8; 2] = [Sorted::check, BitRows::check];
-
-/// Program one of a candidate, to be run as a process: the proved one is target/bin/apply_tickets or
-/// VIMELOSA_APPLY_TICKETS, a rival's is this executable.
+/// Program one of a candidate, to be run as a process.
 pub fn program_one(name: &str) -> Command {
+    process(name, "--program", "apply_tickets", "VIMELOSA_APPLY_TICKETS")
+}
+
+/// The program of a candidate that checks the table of an image again and again.
+pub fn check_load(name: &str) -> Command {
+    process(name, "--check", "check_load", "VIMELOSA_CHECK_LOAD")
+}
+
+/// The proved program is in target/bin or where a variable says; a rival's is this executable.
+fn process(name: &str, word: &str, program: &str, variable: &str) -> Command {
     if name == NAMES[0] {
-        let built = PathBuf::from(concat!(env!("CARGO_MANIFEST_DIR"), "/../target/bin/apply_tickets"));
-        return Command::new(env::var_os("VIMELOSA_APPLY_TICKETS").map_or(built, PathBuf::from));
+        let built = Path::new(env!("CARGO_MANIFEST_DIR")).join("../target/bin").join(program);
+        return Command::new(env::var_os(variable).map_or(built, PathBuf::from));
     }
     let mut command = Command::new(env::current_exe().expect("the benchmark has a path"));
-    command.args(["--program", name]);
+    command.args([word, name]);
     command
 }
 
@@ -40,4 +47,10 @@ pub fn run_program(name: &str) -> Result<()> {
     } else {
         program::run::<BitRows>(input, output)
     }
+}
+
+/// Runs a rival's checks in this process.
+pub fn run_checks(name: &str) -> Result<()> {
+    let check = if name == NAMES[1] { Sorted::check } else { BitRows::check };
+    checks::run(check, stdin().lock(), stdout().lock())
 }

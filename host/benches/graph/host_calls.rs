@@ -1,6 +1,6 @@
-//! The host call on images, and the check.
+//! The host call on images.
 
-use crate::candidates::{HostCall, CHECKS, HOST_CALLS};
+use crate::candidates::{HostCall, HOST_CALLS};
 use crate::clock::{interleaved, repeated, Readings, Run};
 use crate::rivals::contents::LONGEST_IMAGE;
 use crate::settings::Settings;
@@ -14,23 +14,20 @@ pub struct Measured {
     pub calls: Vec<Line>,
     pub mean: Line,
     pub read_and_check: Line,
-    /// The proved call that reads and checks, beside the rivals' checks alone.
-    pub check: Line,
 }
 
 /// Measures all calls on all graphs, each once within every repetition.
 pub fn measure(settings: &Settings, subjects: &[Subject]) -> Vec<Measured> {
     let calls: Vec<Vec<Call>> = subjects.iter().map(Subject::calls).collect();
     let mut runs = Vec::new();
-    for (subject, calls) in subjects.iter().zip(&calls) {
+    for calls in &calls {
         runs.extend(calls.iter().flat_map(|call| call_runs(settings, call)));
-        runs.extend(check_runs(settings, &subject.table));
     }
     let readings = interleaved(settings.slices, &mut runs);
     let mut rest = readings.as_slice();
     let mut measured = Vec::new();
     for (subject, calls) in subjects.iter().zip(&calls) {
-        let (own, after) = rest.split_at(HOST_CALLS.len() * calls.len() + CHECKS.len());
+        let (own, after) = rest.split_at(HOST_CALLS.len() * calls.len());
         measured.push(Measured::of(subject, calls, own));
         rest = after;
     }
@@ -38,20 +35,16 @@ pub fn measure(settings: &Settings, subjects: &[Subject]) -> Vec<Measured> {
 }
 
 impl Measured {
-    /// Sorts the readings of one graph: each call's by candidate, the last call being that which reads and checks; then
-    /// those of the checks.
+    /// Sorts the readings of one graph: each call's by candidate, the last call being that which reads and checks.
     fn of(subject: &Subject, calls: &[Call], readings: &[Readings]) -> Measured {
         let facts = subject.facts;
         let graph = format!("{}, {facts} facts", subject.name);
-        let (called, checked) = readings.split_at(HOST_CALLS.len() * calls.len());
-        let each = calls.iter().zip(called.chunks(HOST_CALLS.len()));
+        let each = calls.iter().zip(readings.chunks(HOST_CALLS.len()));
         let mut calls: Vec<Line> = each.map(|(call, own)| Line::of(format!("{graph}: {}", call.name), own)).collect();
         calls.pop();
         let mean = Line::mean(format!("{graph}: mean of the five"), &calls);
-        let read = &called[called.len() - HOST_CALLS.len()..];
-        let read_and_check = Line::of(graph.clone(), read);
-        let check = Line::of(graph, &[&read[..1], checked].concat());
-        Measured { facts, calls, mean, read_and_check, check }
+        let read_and_check = Line::of(graph, &readings[readings.len() - HOST_CALLS.len()..]);
+        Measured { facts, calls, mean, read_and_check }
     }
 }
 
@@ -70,9 +63,4 @@ fn call_runs<'a>(settings: &Settings, call: &'a Call) -> Vec<Run<'a>> {
 fn called<'a>(host_call: HostCall, call: &'a Call) -> impl FnMut() -> u64 + 'a {
     let mut output = vec![0; LONGEST_IMAGE];
     move || host_call(call.image, &call.ticket, &mut output)
-}
-
-fn check_runs<'a>(settings: &Settings, table: &'a [u32]) -> Vec<Run<'a>> {
-    assert!(CHECKS.iter().all(|check| check(table) == 0));
-    CHECKS.into_iter().map(|check| repeated(settings.slice, move || check(table))).collect()
 }

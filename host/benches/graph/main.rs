@@ -1,7 +1,8 @@
 //! The benchmark: the proved implementation beside two rivals and SQLite, in one run. `--quick` measures little,
-//! `--write` writes the report to docs/, `--program NAME` is a rival's program one.
+//! `--write` writes the report to docs/, `--program NAME` is a rival's program one, `--check NAME` its check of one table.
 
 mod candidates;
+mod checks;
 mod clock;
 mod growth;
 mod host_calls;
@@ -24,8 +25,10 @@ use std::{env, fs, io};
 fn main() -> io::Result<()> {
     let words: Vec<String> = env::args().skip(1).collect();
     if let [first, name] = words.as_slice() {
-        if first == "--program" {
-            return candidates::run_program(name);
+        match first.as_str() {
+            "--program" => return candidates::run_program(name),
+            "--check" => return candidates::run_checks(name),
+            _ => {}
         }
     }
     let settings = Settings::of(&words);

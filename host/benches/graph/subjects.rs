@@ -19,8 +19,6 @@ pub struct Subject {
     /// The image on which the insertion is run, and the one for the other tickets.
     open: Vec<u8>,
     image: Vec<u8>,
-    /// The words of the latter in a table of 2,048.
-    pub table: Vec<u32>,
     tickets: Tickets,
 }
 
@@ -74,9 +72,11 @@ impl Subject {
     }
 
     fn of(name: &'static str, open: Vec<u8>, table: &Sorted, tickets: Tickets) -> Subject {
-        let mut words = table.words().to_vec();
-        words.resize(MOST_WORDS, 0);
-        Subject { name, facts: table.count_facts(), open, image: table.image(), table: words, tickets }
+        Subject { name, facts: table.count_facts(), open, image: table.image(), tickets }
+    }
+
+    pub fn image(&self) -> &[u8] {
+        &self.image
     }
 
     /// The five calls whose mean is reported, and one that reads and checks the image before the ticket is refused for
