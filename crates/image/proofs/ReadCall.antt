@@ -43,77 +43,77 @@ overfull-some false r e z = omega (arith, e, z)
 pub size-most : (t : List ℕ) → badSize product t ≡ false → length t ≤ product .most
 size-most t e = elim (decLt (product .most) (length t)) [ yes h ↦ absurd (subst T e (tests-size product t .complete (inr h))) | no h ↦ omega (arith, h) ]
 
+-- The words that bytes give, and refusal 3 of them, or 0.
+abbrev words : List ℕ → List ℕ
+words bytes = wordsOf product form bytes
+
+abbrev last : List ℕ → ℕ
+last bytes = orElse (inconsistent product (words bytes)) 3 0
+
 module _ (t bytes : List ℕ) where
-  abbrev words : List ℕ
-  words = wordsOf product form bytes
-
-  -- 3, or 0.
-  abbrev last : ℕ
-  last = orElse (inconsistent product words) 3 0
-
   pub read-refused : (n : ℕ) → n ≡ readAnswer t bytes → (n ≡ 0 → ⊥) → (n ≡ readAnswer t bytes) × (t ≡ readWords t bytes)
-  read-refused n e h = (e, sym (ap (λ b. cond b (padded (length t) words) t) (ne-eqb (readAnswer t bytes) 0 (λ z. h (e ∙ z)))))
+  read-refused n e h = (e, sym (ap (λ b. cond b (padded (length t) (words bytes)) t) (ne-eqb (readAnswer t bytes) 0 (λ z. h (e ∙ z)))))
 
-  pub read-done : 0 ≡ readAnswer t bytes → (t′ : List ℕ) → t′ ≡ padded (length t) words → (0 ≡ readAnswer t bytes) × (t′ ≡ readWords t bytes)
-  read-done e t′ h = (e, h ∙ sym (ap (λ b. cond b (padded (length t) words) t) (eq-eqb (readAnswer t bytes) 0 (sym e))))
+  pub read-done : 0 ≡ readAnswer t bytes → (t′ : List ℕ) → t′ ≡ padded (length t) (words bytes) → (0 ≡ readAnswer t bytes) × (t′ ≡ readWords t bytes)
+  read-done e t′ h = (e, h ∙ sym (ap (λ b. cond b (padded (length t) (words bytes)) t) (eq-eqb (readAnswer t bytes) 0 (sym e))))
 
   -- 1.
   pub read-small : badSize product t ≡ true → 1 ≡ readAnswer t bytes
-  read-small e = sym (ap (λ b. orElse b 1 (imageRefusal bytes (length t) last)) e)
+  read-small e = sym (ap (λ b. orElse b 1 (imageRefusal bytes (length t) (last bytes))) e)
 
   module _ (size : badSize product t ≡ false) where
-    read-sized : readAnswer t bytes ≡ imageRefusal bytes (length t) last
-    read-sized = ap (λ b. orElse b 1 (imageRefusal bytes (length t) last)) size
+    read-sized : readAnswer t bytes ≡ imageRefusal bytes (length t) (last bytes)
+    read-sized = ap (λ b. orElse b 1 (imageRefusal bytes (length t) (last bytes))) size
 
     -- 12, whatever the words.
     pub read-malformed : malformed product form bytes ≡ true → 12 ≡ readAnswer t bytes
-    read-malformed e = sym (read-sized ∙ ap (λ b. orElse b 12 (orElse (ltb (length t) (length words)) 11 last)) e)
+    read-malformed e = sym (read-sized ∙ ap (λ b. orElse b 12 (orElse (ltb (length t) (length (words bytes))) 11 (last bytes))) e)
 
     -- More words than the table has: 12 or 11.
-    pub read-overfull : length t < length words → (r : ℕ) → r ≡ orElse (malformed product form bytes) 12 11 → r ≡ readAnswer t bytes
-    read-overfull h r e = e ∙ sym (read-sized ∙ ap (λ b. orElse (malformed product form bytes) 12 (orElse b 11 last)) (lt-ltb (length t) (length words) h))
+    pub read-overfull : length t < length (words bytes) → (r : ℕ) → r ≡ orElse (malformed product form bytes) 12 11 → r ≡ readAnswer t bytes
+    read-overfull h r e = e ∙ sym (read-sized ∙ ap (λ b. orElse (malformed product form bytes) 12 (orElse b 11 (last bytes))) (lt-ltb (length t) (length (words bytes)) h))
 
     -- No more: 12, 3 or 0.
-    pub read-fitting : length words ≤ length t → readAnswer t bytes ≡ orElse (malformed product form bytes) 12 last
-    read-fitting h = read-sized ∙ ap (λ b. orElse (malformed product form bytes) 12 (orElse b 11 last)) (le-ltb (length t) (length words) h)
+    pub read-fitting : length (words bytes) ≤ length t → readAnswer t bytes ≡ orElse (malformed product form bytes) 12 (last bytes)
+    read-fitting h = read-sized ∙ ap (λ b. orElse (malformed product form bytes) 12 (orElse b 11 (last bytes))) (le-ltb (length t) (length (words bytes)) h)
 
   -- Not refused.
-  pub read-parts : 0 ≡ readAnswer t bytes → (badSize product t ≡ false) × (malformed product form bytes ≡ false) × (length words ≤ length t) × (last ≡ 0)
+  pub read-parts : 0 ≡ readAnswer t bytes → (badSize product t ≡ false) × (malformed product form bytes ≡ false) × (length (words bytes) ≤ length t) × (last bytes ≡ 0)
   read-parts e =
-      let more : Bool = ltb (length t) (length words) in
-      let a = else-none (badSize product t) 1 (imageRefusal bytes (length t) last) (omega arith) (sym e) in
-      let b = else-none (malformed product form bytes) 12 (orElse more 11 last) (omega arith) (a .1) in
-      let c = else-none more 11 last (omega arith) (b .1) in
-      (a .0, b .0, ltb-false (length t) (length words) (c .0), c .1)
+      let more : Bool = ltb (length t) (length (words bytes)) in
+      let a = else-none (badSize product t) 1 (imageRefusal bytes (length t) (last bytes)) (omega arith) (sym e) in
+      let b = else-none (malformed product form bytes) 12 (orElse more 11 (last bytes)) (omega arith) (a .1) in
+      let c = else-none more 11 (last bytes) (omega arith) (b .1) in
+      (a .0, b .0, ltb-false (length t) (length (words bytes)) (c .0), c .1)
 
   pub read-length : length (readWords t bytes) ≡ length t
   read-length = elim (ℕ-discrete (readAnswer t bytes) 0) [
-    | yes e ↦ ap length (sym (read-done (sym e) (padded (length t) words) refl .1)) ∙ padded-length (length t) words (read-parts (sym e) .2)
+    | yes e ↦ ap length (sym (read-done (sym e) (padded (length t) (words bytes)) refl .1)) ∙ padded-length (length t) (words bytes) (read-parts (sym e) .2)
     | no n ↦ ap length (sym (read-refused (readAnswer t bytes) refl n .1))
   ]
 
 -- A work table of zeros into which the words of an image that fits were stored, and the answer r of its check.
-module _ (t bytes : List ℕ) (b : AllBytes bytes) (f : Fitting t bytes) (zeros : List ℕ) (z : zeros ≡ replicate (length t) 0) (work : List ℕ) (e : work ≡ words t bytes ++ drop (length (words t bytes)) zeros) where
-  pub work-held : work ≡ padded (length t) (words t bytes)
-  work-held = e ∙ (ap (λ l. words t bytes ++ drop (length (words t bytes)) l) z ∙ ap (λ l. words t bytes ++ l) (drop-zeros (length t) (length (words t bytes))))
+module _ (t bytes : List ℕ) (b : AllBytes bytes) (f : Fitting t bytes) (zeros : List ℕ) (z : zeros ≡ replicate (length t) 0) (work : List ℕ) (e : work ≡ words bytes ++ drop (length (words bytes)) zeros) where
+  pub work-held : work ≡ padded (length t) (words bytes)
+  work-held = e ∙ (ap (λ l. words bytes ++ drop (length (words bytes)) l) z ∙ ap (λ l. words bytes ++ l) (drop-zeros (length t) (length (words bytes))))
 
   pub work-length : length work ≡ length t
-  work-length = ap length work-held ∙ padded-length (length t) (words t bytes) (f .fits)
+  work-length = ap length work-held ∙ padded-length (length t) (words bytes) (f .fits)
 
   module _ (r : ℕ) (q : r ≡ tableRefusal product work 0) where
-    judged : orElse (malformed product form bytes) 2 (last t bytes) ≡ r
+    judged : orElse (malformed product form bytes) 2 (last bytes) ≡ r
     judged =
-        ap (λ m. orElse m 2 (last t bytes)) (right-malformed bytes b (f .contents))
+        ap (λ m. orElse m 2 (last bytes)) (right-malformed bytes b (f .contents))
         ∙ sym (q ∙ (ap (λ w. tableRefusal product w 0) work-held ∙ held-checked t bytes (f .size) (f .fits)))
 
     -- 2 is 12, and any other answer is reading's.
     pub work-malformed : r ≡ 2 → 12 ≡ readAnswer t bytes
     work-malformed h =
-        else-is (malformed product form bytes) 2 12 r (last t bytes) judged h (never (inconsistent product (words t bytes))) ∙ sym (read-fitting t bytes (f .size) (f .fits))
+        else-is (malformed product form bytes) 2 12 r (last bytes) judged h (never (inconsistent product (words bytes))) ∙ sym (read-fitting t bytes (f .size) (f .fits))
       where
         never : (i : Bool) → orElse i 3 0 ≡ 2 → ⊥
         never true = λ z. omega (arith, z)
         never false = λ z. omega (arith, z)
 
     pub work-answer : (r ≡ 2 → ⊥) → r ≡ readAnswer t bytes
-    work-answer h = else-not (malformed product form bytes) 2 12 r (last t bytes) judged h ∙ sym (read-fitting t bytes (f .size) (f .fits))
+    work-answer h = else-not (malformed product form bytes) 2 12 r (last bytes) judged h ∙ sym (read-fitting t bytes (f .size) (f .fits))
