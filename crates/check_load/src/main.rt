@@ -1,5 +1,6 @@
 // For the benchmark: reads an image from standard input, checks its table again and again, and prints how many of the checks accepted it. For a
 // refused image it prints nothing.
+ghost use Prim.Native.Nat.{_≤_};
 use consistency::check;
 use image::FIRST_BODY;
 use image::LARGEST_FACT;
@@ -17,15 +18,25 @@ const LONGEST: usize = FIRST_BODY + LARGEST_FACT * MOST;
 // How often the table is checked.
 const ROUNDS: u64 = 5000;
 
-// How many of the checks accept the table. The first word of a consistent table is stored each time, so that no check can stand for the next.
+// Whether a check accepts the table, as 1 or 0. The first word of a consistent table is stored each time, so that no check can stand for the
+// next.
+fn check_again(t: &mut [Word; MOST]) -> u64
+    ensures { λ r. ⌜ r ≤ 1 ⌝ }
+{
+    t[0] = word_of(CLASS, RESOURCE, 0, 0);
+    let answer = check(t);
+    if answer == 0 {
+        return 1;
+    }
+    0
+}
+
+// How many of the checks accept the table.
 fn count_accepted(t: &mut [Word; MOST]) -> u64 {
     let mut done = 0;
     let mut accepted = 0;
     while done < ROUNDS {
-        t[0] = word_of(CLASS, RESOURCE, 0, 0);
-        if check(t) == 0 {
-            accepted += 1;
-        }
+        accepted += check_again(t);
         done += 1;
     }
     accepted
