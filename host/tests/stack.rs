@@ -5,7 +5,7 @@
 use std::thread;
 use vimelosa_host::{call_raw, Graph, Range, Ticket, LONGEST_IMAGE};
 
-/// The stack that a thread is to have. The deepest call known takes two thirds of it.
+/// The stack that a thread is to have. The deepest call known takes three quarters of it.
 const STACK: usize = 64 * 1024;
 
 const FIRST: u8 = 20;
@@ -105,7 +105,7 @@ fn property_chains_that_do_not_fit() {
 /// A link between properties needs one between their domains, which joins two chains of classes.
 #[test]
 fn class_chains_joined_by_a_property_link() {
-    let chains = Chains::of_lengths(41, 41);
+    let chains = Chains::of_lengths(42, 42);
     let (low, high) = chains.joint();
     let mut graph = class_chains(&chains);
     let (p, q) = (150, 151);
