@@ -1,17 +1,12 @@
 -- Words of facts by their places and as a list: members, and the ascent of both. Assumes nothing.
 use Prim.Native.Nat.{ℕ, zero, suc, _<_}
 use mathlib.Core.Path.{_≡_, sym, subst}
-use mathlib.Core.Logic.{⊎-elim}
 use mathlib.Core.List.{List, [], _∷_}
 use native.Mathlib.Omega.{arith}
-use lib.ListN.{length, take}
-use lib.Seq.{take-length}
+use lib.ListN.{length}
 use Rattle.rdfs.specs.Lists.{_∈_, here, there, Ascending}
-use Rattle.table.specs.Found.{below}
 use Rattle.table.proofs.Filled.{at-in}
-use Rattle.table.proofs.Below.{first-within, first-up, first-down}
-use Rattle.consistency.specs.Runs.{at, Has, FactWords, Below}
-use Rattle.consistency.proofs.Places.{split}
+use Rattle.consistency.specs.Runs.{at, Has}
 
 -- Members stand at places.
 pub in-has : {x : ℕ} {l : List ℕ} → x ∈ l → Has l x
@@ -36,15 +31,3 @@ pub rises-ascending : (l : List ℕ) → Rises l → Ascending l
 rises-ascending [] r = tt
 rises-ascending (x ∷ l) r =
     ((λ y h. let (i, b, e) = in-has h in subst (λ z. x < z) e (r 0 (suc i) (omega arith) (omega arith))), rises-ascending l (λ i j h b. r (suc i) (suc j) (omega arith) (omega arith)))
-
--- The number of words below one, as the table's search counts them.
-module _ {t : List ℕ} (F : FactWords t) where
-  pub words-ascending : Ascending (take (length t) t)
-  words-ascending = subst Ascending (sym (take-length t)) (rises-ascending t (F .ascending))
-
-  pub below-counted : (w r : ℕ) → r ≡ below (take (length t) t) w → Below t w r
-  below-counted w r e = record {
-    within = omega (arith, first-within t (length t) w (omega arith) words-ascending);
-    before = λ k h. ⊎-elim (λ l. l) (λ l. absurd (omega (arith, first-down t (length t) w (omega arith) words-ascending k (omega (arith, first-within t (length t) w (omega arith) words-ascending)) l))) (split (at t k) w);
-    after = λ k h b. ⊎-elim (λ l. absurd (omega (arith, first-up t (length t) w (omega arith) words-ascending k b l))) (λ l. l) (split (at t k) w);
-  }
