@@ -39,7 +39,7 @@ module _ (t : List ℕ) where
   each-meets r21 k E = λ x y p. from r21 E x y 0 p
   each-meets r22 k E = λ x y z w p. from r22 E x y 0 p z w
   each-meets r23 k E = λ x y z w p. from r23 E x y 0 p z w
-  each-meets r24 k E = λ x y z w d p. from r24 E x y z p w d
+  each-meets r24 k E = absurd (omega arith)
   each-meets r25 k E = λ x y z w d n p. from r25 E x y z p w d n
   each-meets r26 k E = absurd (omega arith)
   each-meets r27 k E = absurd (omega arith)
@@ -79,7 +79,7 @@ module _ (t : List ℕ) where
     meets-each r21 M = two r21 (lit≤ tt) M
     meets-each r22 M = two r22 (lit≤ tt) (λ x y p z w. M x y z w p)
     meets-each r23 M = two r23 (lit≤ tt) (λ x y p z w. M x y z w p)
-    meets-each r24 M = three r24 (λ x y z p w d. M x y z w d p)
+    meets-each r24 M = λ i l e. tt
     meets-each r25 M = three r25 (λ x y z p w d n. M x y z w d n p)
     meets-each r26 M = λ i l e. tt
     meets-each r27 M = λ i l e. tt

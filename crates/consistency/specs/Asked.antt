@@ -5,7 +5,7 @@ use mathlib.Core.Logic.{_⊎_}
 use Rattle.rdfs.specs.Facts.{Graph, cl, pr, ind, lit, csub, psub, dom, rng, ci}
 use Rattle.rdfs.specs.Rules.{Rule, r4, r5, r6, r7, r8, r9, r10, r11, r12, r13, r14, r15, r16, r17, r18, r19, r20, r21, r22, r23, r24, r25, r26, r27, h1, h2, h3, h4}
 
--- The kind of the facts that a rule goes through one by one; 0 for 18, 20, 26 and 27, which go through runs, and for H1, which asks for one fact.
+-- The kind of the facts that a rule goes through one by one; 0 for 18, 20, 24, 26 and 27, which go through runs, and for H1, which asks for one fact.
 abbrev pub startKind : Rule → ℕ
 startKind r4 = 1
 startKind r5 = 1
@@ -27,7 +27,7 @@ startKind r20 = 0
 startKind r21 = 6
 startKind r22 = 6
 startKind r23 = 6
-startKind r24 = 10
+startKind r24 = 0
 startKind r25 = 10
 startKind r26 = 0
 startKind r27 = 0
@@ -58,7 +58,7 @@ Asks G r20 a b c = Unit {0}
 Asks G r21 a b c = G (psub b a) → ⊥
 Asks G r22 a b c = (z w : ℕ) → G (dom a z) → G (dom b w) → (z ≡ w → ⊥) → G (csub z w)
 Asks G r23 a b c = (z w : ℕ) → G (rng a z) → G (rng b w) → (z ≡ w → ⊥) → (z ≡ 1 → ⊥) → (w ≡ 1 → ⊥) → G (csub z w)
-Asks G r24 a b c = (w : ℕ) → G (dom c w) → G (ci a w)
+Asks G r24 a b c = Unit {0}
 Asks G r25 a b c = (w : ℕ) → G (rng c w) → (w ≡ 1 → ⊥) → G (ci b w)
 Asks G r26 a b c = Unit {0}
 Asks G r27 a b c = Unit {0}

@@ -1,7 +1,9 @@
 -- The graph of the words of a table, and the facts of one kind and one first id.
 use Prim.Native.Nat.{ℕ, _≤_, _<_}
 use mathlib.Core.Path.{_≡_}
+use mathlib.Core.Bool.{cond}
 use mathlib.Core.List.{List}
+use lib.Dec.{eqb}
 use lib.ListN.{length}
 use Rattle.rdfs.specs.Numbers.{product}
 use Rattle.rdfs.specs.Facts.{Graph, kind, first, second, third}
@@ -22,6 +24,14 @@ graphOf t f = Stands t (kind f) (first f) (second f) (third f)
 -- Each word of kind k has ids with Q.
 abbrev pub Each : List ℕ → ℕ → (ℕ → ℕ → ℕ → Type 0) → Type 0
 Each t k Q = (i : ℕ) → i < length t → kindOf (at t i) ≡ k → Q (firstOf (at t i)) (secondOf (at t i)) (thirdOf (at t i))
+
+-- The last id of a fact of kind k, which has two ids or three.
+abbrev pub lastOf : ℕ → ℕ → ℕ → ℕ
+lastOf k b c = cond (eqb k 10) c b
+
+-- What the last id of a fact of kind k with the ids a, b, c has by kind l, a has by kind m.
+abbrev pub Carried : List ℕ → ℕ → ℕ → ℕ → ℕ → ℕ → ℕ → Type 0
+Carried t k m l a b c = (z : ℕ) → Stands t l (lastOf k b c) z 0 → Stands t m a z 0
 
 -- What y has by kind l, x has by kind k, if x has y by kind k.
 abbrev pub Carries : List ℕ → ℕ → ℕ → Type 0

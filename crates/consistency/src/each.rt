@@ -16,7 +16,6 @@ use crate::typing::is_literal_only;
 use crate::typing::is_under_resource;
 use crate::values::is_object_literal;
 use crate::values::is_object_member;
-use crate::values::is_subject_member;
 use table::CLASS;
 use table::DOMAIN;
 use table::INDIVIDUAL;
@@ -40,7 +39,7 @@ ghost use Rattle.consistency.specs.Asked.{startKind, Asks};
 ghost use Rattle.consistency.specs.Earlier.{Earlier};
 ghost use Rattle.consistency.specs.Order.{ruleOf};
 
-// Whether the ids of one word are as a rule asks. Rules 18, 20, 26, 27 and H1 ask nothing of single words.
+// Whether the ids of one word are as a rule asks. Rules 18, 20, 24, 26, 27 and H1 ask nothing of single words.
 fn ids_meet<'a>(t: &'a [Word], s: &'a [u16], rule: Rule, a: Word, b: Word, c: Word) -> bool
     requires { ⌜ Indexed (now t) (now s) × (Id a × Id b × Id c) × Earlier (graphOf (now t)) (ruleOf rule) ⌝ }
     ensures { λ r. ⌜ Decides r (Asks (graphOf (now (t .entry))) (ruleOf rule) a b c) ⌝ }
@@ -66,7 +65,7 @@ fn ids_meet<'a>(t: &'a [Word], s: &'a [u16], rule: Rule, a: Word, b: Word, c: Wo
         Rule::R21 => lacks_in_run(t, s, SUBPROPERTY, b, a),
         Rule::R22 => has_linked_domains(t, s, a, b),
         Rule::R23 => has_linked_ranges(t, s, a, b),
-        Rule::R24 => is_subject_member(t, s, a, c),
+        Rule::R24 => true,
         Rule::R25 => is_object_member(t, s, b, c),
         Rule::R26 => true,
         Rule::R27 => true,

@@ -2,6 +2,7 @@
 use crate::Rule;
 use crate::each::all_meet;
 use crate::marks::all_carried;
+use crate::marks::all_subjects;
 use crate::present::has_least;
 use crate::values::all_inherited;
 use table::CLASS;
@@ -162,10 +163,10 @@ pub fn meets_23<'a>(t: &'a [Word], s: &'a [u16]) -> bool
 }
 
 pub fn meets_24<'a>(t: &'a [Word], s: &'a [u16]) -> bool
-    requires { ⌜ Indexed (now t) (now s) × Meets (graphOf (now t)) r16 ⌝ }
+    requires { ⌜ Indexed (now t) (now s) ⌝ }
     ensures { λ r. ⌜ Decides r (Meets (graphOf (now (t .entry))) r24) ⌝ }
 {
-    all_meet(t, s, Rule::R24, VALUE)
+    all_subjects(t, s)
 }
 
 pub fn meets_25<'a>(t: &'a [Word], s: &'a [u16]) -> bool

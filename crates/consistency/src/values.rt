@@ -1,4 +1,4 @@
-// The rules on the values of individuals: 24, 25 and H3 by ids, and 27.
+// The rules on the values of individuals: 25 and H3 by ids, and 27.
 use crate::merge::group_start;
 use crate::merge::is_covered;
 use crate::merge::place_of;
@@ -7,7 +7,6 @@ use crate::present::has_least;
 use crate::present::only_second;
 use crate::runs::IDS;
 use crate::runs::run_at;
-use table::DOMAIN;
 use table::LITERAL;
 use table::MARK;
 use table::MEMBER;
@@ -20,25 +19,13 @@ use table::word_of;
 ghost use mathlib.Core.Path.{_≡_};
 ghost use Prim.Native.Nat.{_≤_};
 ghost use lib.ListN.{length};
-ghost use Rattle.rdfs.specs.Rules.{Meets, r24, r25, r27, h3};
+ghost use Rattle.rdfs.specs.Rules.{Meets, r25, r27, h3};
 ghost use Rattle.table.specs.Answers.{Decides};
 ghost use Rattle.table.specs.Parts.{kindOf, firstOf, secondOf, thirdOf};
 ghost use Rattle.consistency.specs.Runs.{FactWord, Before, Indexed, groupOf};
 ghost use Rattle.consistency.specs.Graphs.{Id, graphOf, Inherited};
 ghost use Rattle.consistency.specs.Asked.{Asks};
 ghost use Rattle.consistency.specs.Earlier.{Earlier};
-
-// Rule 24, for PI(a,b,c): a is in the domain of c.
-pub fn is_subject_member<'a>(t: &'a [Word], s: &'a [u16], a: Word, c: Word) -> bool
-    requires { ⌜ Indexed (now t) (now s) × (Id a × Id c) × Earlier (graphOf (now t)) r24 ⌝ }
-    ensures { λ r. ⌜ Decides r (Asks (graphOf (now (t .entry))) r24 a 0 c) ⌝ }
-{
-    let w = only_second(t, s, DOMAIN, c);
-    if w < IDS {
-        return has_in_run(t, s, MEMBER, a, w);
-    }
-    true
-}
 
 // Rule 25, for PI(a,b,c): b is in the range of c unless that is the mark.
 pub fn is_object_member<'a>(t: &'a [Word], s: &'a [u16], b: Word, c: Word) -> bool

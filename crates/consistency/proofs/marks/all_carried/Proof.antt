@@ -1,8 +1,11 @@
 -- `marks::all_carried` meets its contract: the marks are 0 at first. Assumes nothing.
 use mathlib.Core.Path.{refl}
+use native.Mathlib.Omega.{arith}
 use borrow.Author.Needs.{needs}
 use Rattle.consistency.specs.Runs.{idCount}
 use Rattle.consistency.proofs.Entered.{zeros-at}
+use Rattle.consistency.proofs.Decided.{decides-as}
+use Rattle.consistency.proofs.Carrying.{each-carries, carries-each}
 use Rattle.consistency.proofs.marks.all_carried.Statement.{statement}
 use Rattle.consistency.proofs.marks.all_carried.Tie as tie
 
@@ -12,10 +15,12 @@ slice-aggregate-carries-over c = search needs
 carries-over-requires : tie.Need-carries-over-requires
 carries-over-requires c κs =
     let entry = c .before .before .before in
-    (entry .pre .0, entry .pre .1, entry .pre .2, entry .pre .3, entry .pre .4, refl, λ z. zeros-at idCount z)
+    (entry .pre .0, entry .pre .1, omega arith, entry .pre .1, entry .pre .2, entry .pre .3, entry .pre .4, refl, λ z. zeros-at idCount z)
 
 returns : tie.Need-returns
-returns c = search needs
+returns c =
+    let entry = c .before .before .before .before .before in
+    decides-as (c .before .carries-over .result) _ _ (each-carries (entry .pre .0 .words) _ _ (entry .pre .2)) (carries-each (entry .pre .0 .words) _ _ (entry .pre .2)) (c .before .carries-over .ensures)
 
 pub all-carried-spec : {M : Type 1} → statement M
 all-carried-spec = tie.close (tie.spec slice-aggregate-carries-over carries-over-requires returns)

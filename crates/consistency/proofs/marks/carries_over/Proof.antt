@@ -5,18 +5,19 @@ use native.Mathlib.Omega.{arith}
 use lib.ListN.{length}
 use borrow.Author.Needs.{needs}
 use denote.Ref.{now}
+use Rattle.consistency.specs.Graphs.{Id}
 use Rattle.consistency.proofs.Decided.{decided-met, decided-broken}
-use Rattle.consistency.proofs.Places.{run-within}
+use Rattle.consistency.proofs.Places.{first-id}
 use Rattle.consistency.proofs.Passed.{passed-none, passed-end}
-use Rattle.consistency.proofs.Carrying.{Carrying, carrying-none, carrying-same, carrying-more, marks-decide, carries-each, each-carries}
+use Rattle.consistency.proofs.Carrying.{Carrying, carrying-none, carrying-same, carrying-more, last-id, marks-decide}
 use Rattle.consistency.proofs.marks.carries_over.Statement.{statement}
 use Rattle.consistency.proofs.marks.carries_over.Tie as tie
 
 abbrev Inv-loop : tie.InvT-loop
-Inv-loop t s marks₀ k l i₀ end last₀ marks i last = Carrying t marks k l end last i
+Inv-loop t s marks₀ k m l i₀ end last₀ marks i last = Carrying t marks k m l end last i
 
 abbrev μ-loop : tie.MeasureT-loop
-μ-loop t s marks₀ k l i₀ end last₀ marks i last = end - i
+μ-loop t s marks₀ k m l i₀ end last₀ marks i last = end - i
 
 word-of-requires : tie.Need-word-of-requires Inv-loop μ-loop
 word-of-requires c κs = search needs
@@ -36,7 +37,7 @@ place-of-requires-2 c κs = search needs
 loop-holds : tie.Need-loop-holds Inv-loop μ-loop
 loop-holds c =
     let entry = c .before .before .before .before .before .before .before in
-    carrying-none _ _ _ _ _ _ (passed-none _ _ _ _ _ _ (c .before .before .before .word-of .ensures) (c .before .word-of2 .ensures) (c .before .before .place-of .ensures) (c .place-of2 .ensures)) (entry .pre .5) (entry .pre .6)
+    carrying-none _ _ _ _ _ _ _ (passed-none _ _ _ _ _ _ (c .before .before .before .word-of .ensures) (c .before .word-of2 .ensures) (c .before .before .place-of .ensures) (c .place-of2 .ensures)) (entry .pre .7) (entry .pre .8)
 
 mul-w : tie.Need-mul-w Inv-loop μ-loop
 mul-w c = omega (arith, c .before .loop .inv .passed .within)
@@ -44,64 +45,77 @@ mul-w c = omega (arith, c .before .loop .inv .passed .within)
 shared-slice-read-w : tie.Need-shared-slice-read-w Inv-loop μ-loop
 shared-slice-read-w c = omega (arith, c .before .before .loop .inv .passed .within)
 
-run-of-requires : tie.Need-run-of-requires Inv-loop μ-loop
-run-of-requires c κs = search needs
+first-of-requires : tie.Need-first-of-requires Inv-loop μ-loop
+first-of-requires c κs = search needs
+
+run-at-requires : tie.Need-run-at-requires Inv-loop μ-loop
+run-at-requires c κs =
+    let at-loop = c .before .before .before in
+    let entry = at-loop .before .before .before .before .before .before .before .before in
+    (omega arith, rw (c .first-of .ensures) (first-id (entry .pre .0 .words) (at-loop .loop .i) (omega (arith, at-loop .loop .inv .passed .within))))
 
 mark-next-requires : tie.Need-mark-next-requires Inv-loop μ-loop
 mark-next-requires c κs =
-    let at-loop = c .before .before .before .before in
-    let entry = at-loop .before .before .before .before .before .before .before .before in
-    let carrying = at-loop .loop .inv in
-    let i = at-loop .loop .i in
-    let run = c .before .run-of .ensures in (
-      entry .pre .0,
-      omega (arith, run, run-within (entry .pre .0 .words) i (omega (arith, carrying .passed .within))),
-      carrying .ids,
-      omega (arith, run, carrying .low i (omega arith) (c .before .before .before .loop-test .taken)),
-      carrying .most,
-      carrying-same carrying (omega arith) (c .before .before .before .loop-test .taken) _ run,
-    )
-
-second-of-requires : tie.Need-second-of-requires Inv-loop μ-loop
-second-of-requires c κs = search needs
-
-run-at-requires : tie.Need-run-at-requires Inv-loop μ-loop
-run-at-requires c κs = search needs
-
-is-marked-requires : tie.Need-is-marked-requires Inv-loop μ-loop
-is-marked-requires c κs =
-    let at-mark-next = c .before .before .before .before .before in
-    let entry = at-mark-next .before .before .before .before .before .before .before .before .before .before .before .before .before in
-    (entry .pre .0, omega arith, at-mark-next .mark-next .ensures .ids)
-
-same-length : tie.Need-same-length Inv-loop μ-loop
-same-length c =
-    let at-mark-next = c .before .before .before .before .before .before .before in
-    let at-loop = at-mark-next .before .before .before .before .before in
-    let entry = at-loop .before .before .before .before .before .before .before .before in
-    omega (arith, at-mark-next .mark-next .ensures .ids, at-loop .loop .inv .ids, entry .pre .5)
-
-returns : tie.Need-returns Inv-loop μ-loop
-returns c =
-    let at-mark-next = c .before .before .before .before .before .before .before in
-    let at-run-of = at-mark-next .before .before in
-    let at-loop-test = at-run-of .before .before in
+    let at-loop-test = c .before .before .before .before in
     let at-loop = at-loop-test .before in
     let entry = at-loop .before .before .before .before .before .before .before .before in
     let carrying = at-loop .loop .inv in
     let i = at-loop .loop .i in
-    let kind = carrying .passed .left i (omega arith) (at-loop-test .loop-test .taken) in
-    let marked = rw (at-run-of .run-of .ensures) at (at-mark-next .mark-next .ensures) in
-    let answer = rw (at-run-of .run-of .ensures, c .before .before .run-at .ensures, c .before .before .before .second-of .ensures) at (c .before .is-marked .ensures) in
+    let run = rw (c .before .before .first-of .ensures) at (c .before .run-at .ensures) in (
+      entry .pre .0,
+      omega (arith, run, first-id (entry .pre .0 .words) i (omega (arith, carrying .passed .within)), entry .pre .4),
+      carrying .ids,
+      omega (arith, run, carrying .low i (omega arith) (at-loop-test .loop-test .taken)),
+      carrying .most,
+      carrying-same carrying (omega arith) _ run,
+    )
+
+last-of-requires : tie.Need-last-of-requires Inv-loop μ-loop
+last-of-requires c κs = search needs
+
+run-at-requires-2 : tie.Need-run-at-requires-2 Inv-loop μ-loop
+run-at-requires-2 c κs =
+    let at-run = c .before .before .before .before .before .before in
+    let at-loop = at-run .before .before .before .before in
+    let entry = at-loop .before .before .before .before .before .before .before .before in
+    (omega arith, rw (c .last-of .ensures) (last-id (entry .pre .0 .words) (entry .args .k) (entry .args .m) (entry .args .l) (entry .pre .4) (entry .pre .6) (at-loop .loop .i) (omega (arith, at-loop .loop .inv .passed .within))))
+
+is-marked-requires : tie.Need-is-marked-requires Inv-loop μ-loop
+is-marked-requires c κs =
+    let at-mark-next = c .before .before .before .before .before in
+    let at-loop = at-mark-next .before .before .before .before .before .before in
+    let entry = at-loop .before .before .before .before .before .before .before .before in
+    let id : Id (c .before .last-of .result) = rw (c .before .last-of .ensures) (last-id (entry .pre .0 .words) (entry .args .k) (entry .args .m) (entry .args .l) (entry .pre .4) (entry .pre .6) (at-loop .loop .i) (omega (arith, at-loop .loop .inv .passed .within))) in
+    (entry .pre .0, omega (arith, c .run-at2 .ensures, id, entry .pre .6), at-mark-next .mark-next .ensures .ids)
+
+same-length : tie.Need-same-length Inv-loop μ-loop
+same-length c =
+    let at-mark-next = c .before .before .before .before .before .before .before in
+    let at-loop = at-mark-next .before .before .before .before .before .before in
+    let entry = at-loop .before .before .before .before .before .before .before .before in
+    omega (arith, at-mark-next .mark-next .ensures .ids, at-loop .loop .inv .ids, entry .pre .7)
+
+returns : tie.Need-returns Inv-loop μ-loop
+returns c =
+    let at-mark-next = c .before .before .before .before .before .before .before in
+    let at-run = at-mark-next .before .before in
+    let at-loop-test = at-run .before .before .before in
+    let at-loop = at-loop-test .before in
+    let entry = at-loop .before .before .before .before .before .before .before .before in
+    let carrying = at-loop .loop .inv in
+    let i = at-loop .loop .i in
+    let run = rw (at-run .before .first-of .ensures) at (at-run .run-at .ensures) in
+    let marked = rw run at (at-mark-next .mark-next .ensures) in
+    let answer = rw (run, c .before .before .run-at2 .ensures, c .before .before .before .last-of .ensures) at (c .before .is-marked .ensures) in
     let within : i < length (now (entry .args .t)) = omega (arith, carrying .passed .within) in
-    λ carries.
-    decided-broken (c .before .is-marked .result) _ (marks-decide (entry .pre .0 .words) _ _ (entry .pre .2) (entry .pre .4) i within kind marked (c .before .is-marked .result) answer) (c .if1 .taken)
-    (carries-each (entry .pre .0 .words) _ _ (entry .pre .2) (entry .pre .4) carries i within kind)
+    let decided = marks-decide (entry .pre .0 .words) (entry .args .k) (entry .args .m) (entry .args .l) (entry .pre .4) (entry .pre .6) i within marked (c .before .is-marked .result) answer in
+    let kind = carrying .passed .left i (omega arith) (at-loop-test .loop-test .taken) in
+    λ carries. decided-broken (c .before .is-marked .result) _ decided (c .if1 .taken) (carries i within kind)
 
 add-i : tie.Need-add-i Inv-loop μ-loop
 add-i c =
-    let at-loop = c .before .before .before .before .before .before .before .before .before .before .before .before in
-    omega (arith, at-loop .loop .inv .passed .within)
+    let at-loop-test = c .before .before .before .before .before .before .before .before .before .before .before .before in
+    omega (arith, at-loop-test .before .loop .inv .passed .within, at-loop-test .loop-test .taken)
 
 loop-less : tie.Need-loop-less Inv-loop μ-loop
 loop-less c = omega arith
@@ -109,28 +123,27 @@ loop-less c = omega arith
 loop-again : tie.Need-loop-again Inv-loop μ-loop
 loop-again c =
     let at-mark-next = c .before .before .before .before .before .before .before in
-    let at-run-of = at-mark-next .before .before in
-    let at-loop-test = at-run-of .before .before in
+    let at-run = at-mark-next .before .before in
+    let at-loop-test = at-run .before .before .before in
     let at-loop = at-loop-test .before in
     let entry = at-loop .before .before .before .before .before .before .before .before in
     let carrying = at-loop .loop .inv in
     let i = at-loop .loop .i in
-    let kind = carrying .passed .left i (omega arith) (at-loop-test .loop-test .taken) in
-    let marked = rw (at-run-of .run-of .ensures) at (at-mark-next .mark-next .ensures) in
-    let answer = rw (at-run-of .run-of .ensures, c .before .before .run-at .ensures, c .before .before .before .second-of .ensures) at (c .before .is-marked .ensures) in
+    let run = rw (at-run .before .first-of .ensures) at (at-run .run-at .ensures) in
+    let marked = rw run at (at-mark-next .mark-next .ensures) in
+    let answer = rw (run, c .before .before .run-at2 .ensures, c .before .before .before .last-of .ensures) at (c .before .is-marked .ensures) in
     let within : i < length (now (entry .args .t)) = omega (arith, carrying .passed .within) in
-    let carried = decided-met (c .before .is-marked .result) _ (marks-decide (entry .pre .0 .words) _ _ (entry .pre .2) (entry .pre .4) i within kind marked (c .before .is-marked .result) answer) (c .if1 .left) in
-    rw (at-run-of .run-of .ensures) (carrying-more (entry .pre .0 .words) _ _ (entry .pre .2) (entry .pre .4) _ _ _ _ i carrying (at-loop-test .loop-test .taken) marked carried)
+    let decided = marks-decide (entry .pre .0 .words) (entry .args .k) (entry .args .m) (entry .args .l) (entry .pre .4) (entry .pre .6) i within marked (c .before .is-marked .result) answer in
+    let carried = decided-met (c .before .is-marked .result) _ decided (c .if1 .left) in
+    rw run (carrying-more (entry .pre .0 .words) _ _ _ (entry .pre .4) (entry .pre .6) _ _ _ _ i carrying (at-loop-test .loop-test .taken) marked carried)
 
 same-length-2 : tie.Need-same-length-2 Inv-loop μ-loop
 same-length-2 c =
     let entry = c .before .before .before .before .before .before .before .before .before in
-    omega (arith, c .before .loop .inv .ids, entry .pre .5)
+    omega (arith, c .before .loop .inv .ids, entry .pre .7)
 
 returns-2 : tie.Need-returns-2 Inv-loop μ-loop
-returns-2 c =
-    let entry = c .before .before .before .before .before .before .before .before .before in
-    each-carries (now (entry .args .t)) _ _ (passed-end _ _ _ _ (c .before .loop .inv .passed) (c .loop-test .left))
+returns-2 c = passed-end _ _ _ _ (c .before .loop .inv .passed) (c .loop-test .left)
 
 pub carries-over-spec : {M : Type 1} → statement M
 carries-over-spec =
@@ -146,10 +159,11 @@ carries-over-spec =
     loop-holds
     mul-w
     shared-slice-read-w
-    run-of-requires
-    mark-next-requires
-    second-of-requires
+    first-of-requires
     run-at-requires
+    mark-next-requires
+    last-of-requires
+    run-at-requires-2
     is-marked-requires
     same-length
     returns
