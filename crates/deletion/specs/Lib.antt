@@ -1,3 +1,4 @@
 pub mod Asked
 pub mod Marks
 pub mod Gone
+pub mod Kept
