@@ -22,22 +22,22 @@ use Rattle.image.specs.Form.{form}
 use Rattle.image.specs.Reading.{wordsOf, malformed}
 use Rattle.image.specs.Calls.{tableImage, readAnswer, readWords, writeAnswer, writeLength, writeBytes}
 use Rattle.image.proofs.ReadCall.{read-length}
-use Rattle.vimelosa.specs.Host.{packed, answerIn, lengthIn, refusedElse, room, applied, hostAnswer, hostOutput}
+use Rattle.vimelosa.specs.Host.{sixteenBits, packed, answerIn, lengthIn, refusedElse, room, applied, hostAnswer, hostOutput}
 use Rattle.vimelosa.proofs.Host.{refused-is, passed-is, passed-leaves, read-table}
 
 -- A refusal fits its field.
-else-small : (b : Bool) (n rest : ℕ) → n < 65536 → rest < 65536 → orElse b n rest < 65536
+else-small : (b : Bool) (n rest : ℕ) → n < sixteenBits → rest < sixteenBits → orElse b n rest < sixteenBits
 else-small true n rest p q = p
 else-small false n rest p q = q
 
 -- An answer of 0 is not a refusal's.
-accepted-passes : (n rest : ℕ) → n < 65536 → answerIn (refusedElse n rest) ≡ 0 → (n ≡ 0) × (refusedElse n rest ≡ rest)
+accepted-passes : (n rest : ℕ) → n < sixteenBits → answerIn (refusedElse n rest) ≡ 0 → (n ≡ 0) × (refusedElse n rest ≡ rest)
 accepted-passes n rest h e = elim (ℕ-discrete n 0) [
   | yes z ↦ (z, passed-is n rest z)
   | no q ↦ let own : n ≡ answerIn (packed n 0 0 0) = omega (arith, h) in absurd (q (own ∙ (ap answerIn (sym (refused-is n rest q)) ∙ e)))
 ]
 
-packed-length : (a r l : ℕ) → a < 65536 → r < 65536 → lengthIn (packed 0 a r l) ≡ l
+packed-length : (a r l : ℕ) → a < sixteenBits → r < sixteenBits → lengthIn (packed 0 a r l) ≡ l
 packed-length a r l p q = omega (arith, p, q)
 
 module _ (image ticket output : List ℕ) where
@@ -54,25 +54,25 @@ module _ (image ticket output : List ℕ) where
     pub write : writeAnswer (s .table) output ≡ 0
     pub answer : hostAnswer image ticket output ≡ packed 0 (s .added) (s .removed) (writeLength (s .table) output)
 
-  read-small : readAnswer room image < 65536
+  read-small : readAnswer room image < sixteenBits
   read-small =
       let l : List ℕ = wordsOf product form image in
       else-small (malformed product form image) 12 _ (lit< tt) (else-small (ltb (product .most) (length l)) 11 _ (lit< tt) (else-small (inconsistent product l) 3 0 (lit< tt) (lit< tt)))
 
   -- 1 to 3 of a table, then others.
-  table-small : (t : List ℕ) (rest : ℕ) → rest < 65536 → tableRefusal product t rest < 65536
+  table-small : (t : List ℕ) (rest : ℕ) → rest < sixteenBits → tableRefusal product t rest < sixteenBits
   table-small t rest h = else-small (badSize product t) 1 _ (lit< tt) (else-small (badLayout product t) 2 _ (lit< tt) (else-small (inconsistent product t) 3 rest (lit< tt) h))
 
-  number-small : s .number < 65536
+  number-small : s .number < sixteenBits
   unfolding applied
   number-small =
       let t : Ticket = decoded ticket in
-      subst (λ n. n < 65536) (sym (step-number product w ticket)) (table-small w _
+      subst (λ n. n < sixteenBits) (sym (step-number product w ticket)) (table-small w _
       (else-small (badLength ticket) 4 _ (lit< tt) (else-small (badOperation t) 5 _ (lit< tt) (else-small (badKind t) 6 _ (lit< tt) (else-small (badIds (product .top) t) 7 _ (lit< tt)
       (else-small (guarded t) 8 _ (lit< tt) (else-small (unknownProperty (facts product w) t) 9 _ (lit< tt) (else-small (clashing (new product w ticket) t) 10 _ (lit< tt)
       (else-small (tooMany product w (new product w ticket)) 11 0 (lit< tt) (lit< tt))))))))))
 
-  write-small : writeAnswer (s .table) output < 65536
+  write-small : writeAnswer (s .table) output < sixteenBits
   write-small = table-small (s .table) _ (else-small (ltb (length output) (length (tableImage (s .table)))) 13 0 (lit< tt) (lit< tt))
 
   pub accepted : answerIn (hostAnswer image ticket output) ≡ 0 → Accepted
@@ -91,7 +91,7 @@ module _ (image ticket output : List ℕ) where
 
   module _ (a : Accepted) where
     -- No more facts come or go than a table has words.
-    counts-small : (s .added < 65536) × (s .removed < 65536)
+    counts-small : (s .added < sixteenBits) × (s .removed < sixteenBits)
     unfolding applied
     counts-small =
         let long : length w ≡ product .most = read-length room image in

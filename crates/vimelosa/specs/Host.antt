@@ -8,16 +8,20 @@ use Rattle.rdfs.specs.Numbers.{product}
 use Rattle.rdfs.specs.Register.{Answer, step}
 use Rattle.image.specs.Calls.{readAnswer, readWords, writeAnswer, writeLength, writeBytes}
 
+-- The values of a number of 16 bits.
+abbrev pub sixteenBits : ℕ
+sixteenBits = 65536
+
 -- Four numbers of 16 bits each, lowest first.
 abbrev pub packed : ℕ → ℕ → ℕ → ℕ → ℕ
-packed answer added removed length = answer + 65536 * (added + 65536 * (removed + 65536 * length))
+packed answer added removed length = answer + sixteenBits * (added + sixteenBits * (removed + sixteenBits * length))
 
 -- The answer and the image's length in such a number.
 abbrev pub answerIn : ℕ → ℕ
-answerIn r = r % 65536
+answerIn r = r % sixteenBits
 
 abbrev pub lengthIn : ℕ → ℕ
-lengthIn r = r / 65536 / 65536 / 65536
+lengthIn r = r / sixteenBits / sixteenBits / sixteenBits
 
 -- A refusal with the other three 0; for 0, what comes after.
 abbrev pub refusedElse : ℕ → ℕ → ℕ

@@ -12,7 +12,7 @@ use table::MOST;
 use table::Word;
 use ticket::apply_checked;
 
-// The numbers that 16 bits have.
+// The values of a number of 16 bits.
 const FIELD: u64 = 65536;
 
 // Four numbers of 16 bits each, lowest first.
