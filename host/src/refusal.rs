@@ -21,7 +21,7 @@ pub enum Refusal {
     Kind = 6,
     /// An unused byte is not 0, or the mark Literal stands where no range does.
     Bytes = 7,
-    /// Resource, and the links and memberships to it, are never deleted.
+    /// A ticket that deletes Resource, or a link or a membership to it.
     NeverDeleted = 8,
     /// The ticket uses a property that the graph does not have.
     UnknownProperty = 9,
@@ -85,7 +85,7 @@ impl Refusal {
             Refusal::Operation => "The ticket neither inserts nor deletes.",
             Refusal::Kind => "The ticket names a kind that no ticket can have.",
             Refusal::Bytes => "An unused byte is not 0, or the mark Literal stands out of place.",
-            Refusal::NeverDeleted => "Resource and what links to it are never deleted.",
+            Refusal::NeverDeleted => "A ticket cannot delete Resource, or a link or a membership to it.",
             Refusal::UnknownProperty => "The ticket uses a property that the graph does not have.",
             Refusal::Clash => "The ticket clashes with what the graph holds.",
             Refusal::Full => "The graph would have more facts than the table has room for.",

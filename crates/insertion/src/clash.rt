@@ -223,8 +223,8 @@ fn value_clashes(t: &[Word], n: usize, a: Word, b: Word, c: Word) -> bool
     is_no_value(t, n, a, b, c)
 }
 
-// Refusal 10: no consistent graph holds the table and the facts that an insertion of kind k asks for. A class, an individual
-// or a literal clashes if it has another role.
+// The clash by lookups of an insertion of kind k: on a consistent table, past refusal 9, it is refusal 10, that no consistent graph holds the
+// table and the asked facts. A class, an individual or a literal clashes if it has another role.
 pub fn clashes(t: &[Word], n: usize, k: Word, a: Word, b: Word, c: Word) -> bool
     requires { ⌜ Counted (now t) n × Id a × Id b × Id c ⌝ }
     ensures { λ r. ⌜ r ≡ lookupClash (factsOf (now (t .entry))) (insertion k a b c) ⌝ }

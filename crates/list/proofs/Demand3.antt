@@ -8,8 +8,9 @@ use Rattle.rdfs.specs.Numbers.{product, recordLength}
 use Rattle.rdfs.specs.Words.{facts}
 use Rattle.rdfs.specs.Register.{step, run, Done, cut, register, Table}
 use Rattle.rdfs.specs.Orders.{SameTickets, InOrder, AllInsertions, AllAccepted}
+use Rattle.rdfs.specs.Promises.{After}
 use Rattle.rdfs.proofs.Perms.{same-tickets-length}
-use Rattle.rdfs.proofs.AfterEach.{After, after-each}
+use Rattle.rdfs.proofs.AfterEach.{after-each}
 use Rattle.rdfs.proofs.Rearrangement.{rearrangement}
 use Rattle.rdfs.proofs.Theorems.{product-sound}
 use Rattle.list.specs.Listing.{listRefusal, listing, ListAnswered}

@@ -14,23 +14,15 @@ use Rattle.rdfs.specs.Facts.{Fact}
 use Rattle.rdfs.specs.Words.{filled, facts, words}
 use Rattle.rdfs.specs.Tickets.{decoded, inserts, deletes, named, asked}
 use Rattle.rdfs.specs.Register.{Answer, step, run, Done, Table}
+use Rattle.rdfs.specs.Promises.{After, Formed}
 use Rattle.rdfs.proofs.Tables.{words-sub}
 use Rattle.rdfs.proofs.LaidOut.{laid-words}
 use Rattle.rdfs.proofs.Counts.{besides-none}
 use Rattle.rdfs.proofs.TicketTests.{known-operation}
-use Rattle.rdfs.proofs.Refusals.{new, Formed, Passed, passed}
+use Rattle.rdfs.proofs.Refusals.{new, Passed, passed}
 use Rattle.rdfs.proofs.Steps.{Kept, step-number, refused-keeps, accepted-leaves}
 use Rattle.rdfs.proofs.InsertionSteps.{accepted-smallest, insertion-table, insertion-grows}
 use Rattle.rdfs.proofs.DeletionSteps.{accepted-largest, deletion-table, deletion-shrinks}
-
--- What holds after one ticket on the words of a table.
-pub record After (N : Numbers) (w bytes : List ℕ) : Type 0 where
-  pub rules : Table N (step N w bytes .table)
-  pub refused : (step N w bytes .number ≡ 0 → ⊥) → (step N w bytes .table ≡ w) × (step N w bytes .added ≡ 0) × (step N w bytes .removed ≡ 0)
-  pub there-are : step N w bytes .number ≡ 0 → T (inserts (decoded bytes)) → asked (decoded bytes) ⊆ facts N (step N w bytes .table)
-  pub is-gone : step N w bytes .number ≡ 0 → T (deletes (decoded bytes)) → named (decoded bytes) ∈ facts N (step N w bytes .table) → ⊥
-  pub grows : T (inserts (decoded bytes)) → (step N w bytes .removed ≡ 0) × (facts N w ⊆ facts N (step N w bytes .table))
-  pub shrinks : T (deletes (decoded bytes)) → (step N w bytes .added ≡ 0) × (facts N (step N w bytes .table) ⊆ facts N w)
 
 module _ (N : Numbers) (s : Sound N) where
   module _ (w bytes : List ℕ) (t : Table N w) where

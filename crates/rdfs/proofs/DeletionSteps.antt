@@ -18,6 +18,7 @@ use Rattle.rdfs.specs.Insertion.{insertion}
 use Rattle.rdfs.specs.Deletion.{deletion}
 use Rattle.rdfs.specs.Tickets.{Ticket, decoded, inserts, deletes, named, asked, guarded, unknownProperty, clashing}
 use Rattle.rdfs.specs.Register.{step, tooMany, Table}
+use Rattle.rdfs.specs.Promises.{Formed, unchanged}
 use Rattle.rdfs.proofs.Tests.{and-both, both-and, either-or}
 use Rattle.rdfs.proofs.Sorted.{sort-ascending, sub-length}
 use Rattle.rdfs.proofs.Parts.{All}
@@ -29,9 +30,9 @@ use Rattle.rdfs.proofs.Gone.{largest-same}
 use Rattle.rdfs.proofs.DeletionLargest.{Deletable, deletion-largest}
 use Rattle.rdfs.proofs.DeletionLaws.{deletion-part, deletion-absent}
 use Rattle.rdfs.proofs.TicketTests.{by-kind, ticketOf, known-kind}
-use Rattle.rdfs.proofs.Refusals.{Formed, new, pass}
+use Rattle.rdfs.proofs.Refusals.{new, pass}
 use Rattle.rdfs.proofs.Steps.{table-sane, table-allowed, step-number, accepted-leaves, left-table}
-use Rattle.rdfs.proofs.Within.{unchanged, same-facts}
+use Rattle.rdfs.proofs.Within.{same-facts}
 
 -- A ticket that deletes inserts nothing.
 not-both : (t : Ticket) → T (deletes t) → T (inserts t) → ⊥

@@ -19,6 +19,7 @@ use Rattle.rdfs.specs.Deletion.{deletion}
 use Rattle.rdfs.specs.Tickets.{Ticket, decoded, inserts, asked, named, outcome, unknownProperty, clashing}
 use Rattle.rdfs.specs.Register.{step, tooMany, Table}
 use Rattle.rdfs.specs.Orders.{Uses}
+use Rattle.rdfs.specs.Promises.{Formed, Possible, PossibleUpTo}
 use Rattle.rdfs.proofs.Tests.{and-both, both-and}
 use Rattle.rdfs.proofs.Parts.{All, consistent-same}
 use Rattle.rdfs.proofs.Allowed.{Allowed}
@@ -28,10 +29,9 @@ use Rattle.rdfs.proofs.Counts.{besides-none}
 use Rattle.rdfs.proofs.Sorted.{sort-ascending, sub-length}
 use Rattle.rdfs.proofs.Filters.{filter-split}
 use Rattle.rdfs.proofs.InsertionSmallest.{insertion-smallest, insertion-clash, insertion-allowed}
-use Rattle.rdfs.proofs.Possible.{Possible}
 use Rattle.rdfs.proofs.TicketTests.{known-kind, uses-known, asked-allowed}
 use Rattle.rdfs.proofs.AskedSeeds.{asked-seeds}
-use Rattle.rdfs.proofs.Refusals.{Formed, new, Passed, passed, refused-10, refuse-10, refused-11}
+use Rattle.rdfs.proofs.Refusals.{new, Passed, passed, refused-10, refuse-10, refused-11}
 use Rattle.rdfs.proofs.Steps.{table-sane, table-allowed, step-number, accepted-leaves, left-table, room-fits}
 
 -- Two graphs with the same facts are the smallest alike.
@@ -80,12 +80,12 @@ module _ (N : Numbers) (s : Sound N) (w bytes : List ℕ) (t : Table N w) (i : T
         let q : T (clashes inserted) = subst (λ L. T (clashes L)) new-is (and-both (inserts (decoded bytes)) (clashes (new N w bytes)) c .1) in
         insertion-clash (N .top) K ask (table-allowed N s w t) ask-allowed q (p .0) (p .1) (p .2) (p .3)
 
-    pub impossible-refused : (T (unknownProperty K (decoded bytes)) → ⊥) → (step N w bytes .number ≡ 10 → ⊥) → Possible (graph K) (graph ask)
+    pub impossible-refused : (T (unknownProperty K (decoded bytes)) → ⊥) → (step N w bytes .number ≡ 10 → ⊥) → PossibleUpTo (N .top) (graph K) (graph ask)
     impossible-refused u n =
         let clash-refused : T (clashes inserted) → ⊥ = λ c. n (step-number N w bytes ∙ refuse-10 N w bytes (table-sane N w t) f u
         (both-and (inserts (decoded bytes)) (clashes (new N w bytes)) i (subst (λ L. T (clashes L)) (sym new-is) c))) in
         let m = free-smallest u clash-refused in
-        (graph inserted, m .consistent, m .holds-table, m .holds-asked)
+        (graph inserted, m .consistent, m .holds-table, m .holds-asked, new-allowed)
 
   -- Refused with 11: no table of as many words holds a consistent graph with the table's facts and the asked ones.
   pub eleven-impossible : step N w bytes .number ≡ 11 → (v : List ℕ) → Table N v → length v ≡ length w → _⊑_ (graph K) (graph (facts N v)) → _⊑_ (graph ask) (graph (facts N v)) → ⊥

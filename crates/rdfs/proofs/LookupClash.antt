@@ -13,22 +13,16 @@ use Rattle.rdfs.specs.Consistency.{Consistent}
 use Rattle.rdfs.specs.Tickets.{Ticket, asked, badIds}
 use Rattle.rdfs.specs.Lookups.{otherRole, domainOf, rangeOf, propertyClash, classLinkClash, propertyLinkClash, memberClash, valueClash, lookupClash}
 use Rattle.rdfs.specs.Orders.{Uses}
+use Rattle.rdfs.specs.Promises.{Judged, Possible}
 use Rattle.rdfs.proofs.Tests.{Tests, differ, tests-decides}
 use Rattle.rdfs.proofs.Facts.{in-list, tests-all-has}
 use Rattle.rdfs.proofs.TicketTests.{by-kind, given-ids, ticketOf}
 use Rattle.rdfs.proofs.OneRole.{RoleName, class, individual, literal, is, roleKind, tests-other-role}
 use Rattle.rdfs.proofs.LookedUp.{domain-in, range-in}
 use Rattle.rdfs.proofs.LookupTests.{propertyFacts, tests-property-clash, tests-class-link-clash, tests-property-link-clash, tests-member-clash, tests-value-clash}
-use Rattle.rdfs.proofs.Possible.{Possible, role-possible, member-possible, value-possible, property-possible}
+use Rattle.rdfs.proofs.Possible.{role-possible, member-possible, value-possible, property-possible}
 use Rattle.rdfs.proofs.PossibleLinks.{class-link-possible, property-link-possible}
 use Rattle.rdfs.proofs.Impossible.{role-impossible, member-impossible, value-impossible, property-impossible, class-link-impossible, property-link-impossible}
-
--- What is known of a table and an insertion past refusal 9.
-pub record Judged (top : ℕ) (K : List Fact) (t : Ticket) : Type 0 where
-  pub consistent : Consistent (graph K)
-  pub kinds : t .kind ∈ ticketKinds
-  pub ids : T (badIds top t) → ⊥
-  pub uses : (p : ℕ) → Uses t p → pr p ∈ K
 
 -- A test finds a clash of a table with wanted facts exactly where there is one.
 pub record Exact (K wanted : List Fact) (clash : Bool) : Type 1 where

@@ -7,6 +7,7 @@ use mathlib.Core.List.{[], _∷_}
 use native.Mathlib.Decide.{ℕ-discrete}
 use Rattle.rdfs.specs.Facts.{Graph, cl, csub, psub, dom, rng, graph}
 use Rattle.rdfs.specs.Consistency.{Consistent}
+use Rattle.rdfs.specs.Promises.{Possible}
 use Rattle.rdfs.proofs.Tests.{differ}
 use Rattle.rdfs.proofs.Hierarchy.{Le, link-self}
 use Rattle.rdfs.proofs.Schema.{Schema, schema-of, Beside, le-differ, beside-differ}
@@ -15,7 +16,7 @@ use Rattle.rdfs.proofs.MoreRoles.{More, more-holds, more-schema, typed-
 use Rattle.rdfs.proofs.MoreLinks.{ClassLink, class-link-holds, class-link-schema, PropertyLink, property-link-holds, property-link-schema}
 use Rattle.rdfs.proofs.Wanted.{WantTwo, wants-first, wants-second, two-fit}
 use Rattle.rdfs.proofs.LookupTests.{ClassLinkClash, Mixed, PropertyLinkClash}
-use Rattle.rdfs.proofs.Possible.{Possible, one-held, Values, by-schema}
+use Rattle.rdfs.proofs.Possible.{one-held, Values, by-schema}
 
 pub same-mark : (z w : ℕ) → (Mixed z w → ⊥) → (z ≡ 1 → w ≡ 1) × (w ≡ 1 → z ≡ 1)
 same-mark z w n = (

@@ -16,13 +16,14 @@ use Rattle.rdfs.specs.Words.{facts, words, padded}
 use Rattle.rdfs.specs.Tickets.{Ticket, decoded, inserts, makesProperty, named, asked}
 use Rattle.rdfs.specs.Register.{step, run, Done, Table}
 use Rattle.rdfs.specs.Orders.{SameTickets, Uses, InOrder, AllInsertions, AllAccepted}
+use Rattle.rdfs.specs.Promises.{Formed}
 use Rattle.rdfs.proofs.Tests.{and-both}
 use Rattle.rdfs.proofs.Lists.{in-cons, in-one, none-in, in-append}
 use Rattle.rdfs.proofs.Facts.{in-list}
 use Rattle.rdfs.proofs.Tables.{words-same}
 use Rattle.rdfs.proofs.LaidOut.{laid-again, laid-fits}
 use Rattle.rdfs.proofs.Perms.{same-tickets-in, same-tickets-sym}
-use Rattle.rdfs.proofs.Refusals.{Formed, Passed, passed}
+use Rattle.rdfs.proofs.Refusals.{Passed, passed}
 use Rattle.rdfs.proofs.Steps.{step-number, step-length}
 use Rattle.rdfs.proofs.InsertionSteps.{accepted-smallest, insertion-table}
 use Rattle.rdfs.proofs.Within.{accepted-within, accepted-inside}

@@ -11,6 +11,7 @@ use Rattle.rdfs.specs.Facts.{Fact}
 use Rattle.rdfs.specs.Words.{facts}
 use Rattle.rdfs.specs.Tickets.{Ticket, decoded, outcome, badLength, badOperation, badKind, badIds, guarded, unknownProperty, clashing}
 use Rattle.rdfs.specs.Register.{orElse, badSize, badLayout, inconsistent, tableRefusal, tooMany, ticketRefusal}
+use Rattle.rdfs.specs.Promises.{Formed}
 
 -- One link of the chain.
 link : (t : Bool) (n rest m : ℕ) → orElse t n rest ≡ m → (T t × (n ≡ m)) ⊎ ((T t → ⊥) × (rest ≡ m))
@@ -34,14 +35,6 @@ pub record Sane (N : Numbers) (w : List ℕ) : Type 0 where
   pub size : T (badSize N w) → ⊥
   pub layout : T (badLayout N w) → ⊥
   pub rules : T (inconsistent N w) → ⊥
-
--- What is known past the first eight refusals: the bytes are a ticket, and it names something that may be changed.
-pub record Formed (N : Numbers) (bytes : List ℕ) : Type 0 where
-  pub long : T (badLength bytes) → ⊥
-  pub operation : T (badOperation (decoded bytes)) → ⊥
-  pub kind : T (badKind (decoded bytes)) → ⊥
-  pub ids : T (badIds (N .top) (decoded bytes)) → ⊥
-  pub free : T (guarded (decoded bytes)) → ⊥
 
 module _ (N : Numbers) (w bytes : List ℕ) where
   abbrev pub given : Ticket

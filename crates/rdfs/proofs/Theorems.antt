@@ -19,22 +19,20 @@ use Rattle.rdfs.specs.Tickets.{Ticket, decoded, inserts, deletes, named,
 use Rattle.rdfs.specs.Register.{Answer, step, run, Done, Table}
 use Rattle.rdfs.specs.Lookups.{lookupClash}
 use Rattle.rdfs.specs.Orders.{SameTickets, InOrder, AllInsertions, AllAccepted}
-use Rattle.rdfs.proofs.Tests.{Tests}
+use Rattle.rdfs.specs.Promises.{After, Formed, Judged, Possible, PossibleUpTo, unchanged}
 use Rattle.rdfs.proofs.Parts.{All}
 use Rattle.rdfs.proofs.Allowed.{Allowed}
 use Rattle.rdfs.proofs.Decision.{check-sound, check-complete}
 use Rattle.rdfs.proofs.InsertionSmallest.{insertion-smallest, insertion-clash}
 use Rattle.rdfs.proofs.TicketTests.{asked-allowed}
 use Rattle.rdfs.proofs.AskedSeeds.{asked-seeds}
-use Rattle.rdfs.proofs.Refusals.{Formed}
 use Rattle.rdfs.proofs.Steps.{Kept, refused-keeps}
 use Rattle.rdfs.proofs.InsertionSteps.{accepted-smallest, refused-impossible, impossible-refused, eleven-impossible}
 use Rattle.rdfs.proofs.DeletionSteps.{deletion-accepted, accepted-largest, repeated-deletion}
-use Rattle.rdfs.proofs.Within.{unchanged, repeated-insertion}
-use Rattle.rdfs.proofs.AfterEach.{After, after-each}
+use Rattle.rdfs.proofs.Within.{repeated-insertion}
+use Rattle.rdfs.proofs.AfterEach.{after-each}
 use Rattle.rdfs.proofs.Rearrangement
-use Rattle.rdfs.proofs.Possible.{Possible}
-use Rattle.rdfs.proofs.LookupClash.{Judged, lookup-clash-sound, lookup-clash-complete}
+use Rattle.rdfs.proofs.LookupClash.{lookup-clash-sound, lookup-clash-complete}
 
 -- The product's numbers are such.
 pub product-sound : Sound product
@@ -54,18 +52,19 @@ arity-is (ci a b) = refl
 arity-is (pi a b c) = refl
 
 -- The decision `consistent?` is consistency.
-pub decision-exact : (K : List Fact) → Tests (consistent? K) (Consistent (graph K))
-decision-exact K = record { sound = check-sound K; complete = check-complete K }
+pub decision-exact : (K : List Fact) → (T (consistent? K) → Consistent (graph K)) × (Consistent (graph K) → T (consistent? K))
+decision-exact K = (check-sound K, check-complete K)
 
 module _ (N : Numbers) (s : Sound N) (w bytes : List ℕ) (t : Table N w) where
   -- An insertion that is not refused leaves the smallest consistent graph that holds the table and the asked facts.
   pub insertion-is-smallest : T (inserts (decoded bytes)) → step N w bytes .number ≡ 0 → Smallest (graph (facts N w)) (graph (asked (decoded bytes))) (graph (facts N (step N w bytes .table)))
   insertion-is-smallest i e = accepted-smallest N s w bytes t i e
 
-  -- An insertion past refusal 9 is refused with 10 exactly if no consistent graph holds the table and the asked facts.
+  -- An insertion past refusal 9 is refused with 10 exactly if no consistent graph holds the table and the asked facts: 10 if none does, whatever
+  -- its ids; else one does whose facts a table can have.
   pub ten-is-exact : T (inserts (decoded bytes)) → Formed N bytes → (T (unknownProperty (facts N w) (decoded bytes)) → ⊥)
       → (step N w bytes .number ≡ 10 → Possible (graph (facts N w)) (graph (asked (decoded bytes))) → ⊥)
-      × ((step N w bytes .number ≡ 10 → ⊥) → Possible (graph (facts N w)) (graph (asked (decoded bytes))))
+      × ((step N w bytes .number ≡ 10 → ⊥) → PossibleUpTo (N .top) (graph (facts N w)) (graph (asked (decoded bytes))))
   ten-is-exact i f u = (refused-impossible N s w bytes t i f, impossible-refused N s w bytes t i f u)
 
   -- An insertion is refused with 11 only if no table of as many words holds a consistent graph with the table's facts and the asked ones.

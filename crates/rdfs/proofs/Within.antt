@@ -19,6 +19,7 @@ use Rattle.rdfs.specs.Insertion.{insertion}
 use Rattle.rdfs.specs.Tickets.{Ticket, decoded, inserts, asked, clashing}
 use Rattle.rdfs.specs.Register.{Answer, step, tooMany, Table}
 use Rattle.rdfs.specs.Orders.{Uses}
+use Rattle.rdfs.specs.Promises.{Formed, unchanged}
 use Rattle.rdfs.proofs.Tests.{and-both}
 use Rattle.rdfs.proofs.Sorted.{sort-ascending, sub-length}
 use Rattle.rdfs.proofs.Parts.{All, demands}
@@ -29,7 +30,7 @@ use Rattle.rdfs.proofs.Counts.{besides-none}
 use Rattle.rdfs.proofs.InsertionSmallest.{insertion-in, insertion-keeps, insertion-clash}
 use Rattle.rdfs.proofs.Closure.{addAll-keeps}
 use Rattle.rdfs.proofs.TicketTests.{by-kind, ticketOf, known-kind, known-uses}
-use Rattle.rdfs.proofs.Refusals.{Formed, new, Passed, pass}
+use Rattle.rdfs.proofs.Refusals.{new, Passed, pass}
 use Rattle.rdfs.proofs.Steps.{table-sane, table-allowed, step-number, accepted-leaves}
 use Rattle.rdfs.proofs.InsertionSteps.{new-is, ask-allowed, accepted-smallest}
 
@@ -73,10 +74,6 @@ asked-uses K c o k a b d h all p (inl u) =
 asked-uses K c o k a b d h all p (inr u) =
     let value : pi a b d ∈ K = subst (λ k. asked (ticketOf o k a b d) ⊆ K) (u .0) all (pi a b d) (here refl) in
     subst (λ x. pr x ∈ K) (sym (u .1)) (c .rule-12 a b d value .1)
-
--- A ticket that changes nothing.
-abbrev pub unchanged : List ℕ → Answer
-unchanged w = record { number = 0; added = 0; removed = 0; table = w }
 
 pub answer-same : (a : Answer) (w : List ℕ) → a .number ≡ 0 → a .added ≡ 0 → a .removed ≡ 0 → a .table ≡ w → a ≡ unchanged w
 answer-same a w n p q r = λ i. record { number = n i; added = p i; removed = q i; table = r i }

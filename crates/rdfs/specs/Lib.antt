@@ -12,3 +12,4 @@ pub mod Tickets
 pub mod Register
 pub mod Lookups
 pub mod Orders
+pub mod Promises

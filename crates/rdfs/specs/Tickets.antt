@@ -54,7 +54,7 @@ badOperation t = not (inserts t || deletes t)
 abbrev pub badKind : Ticket → Bool
 badKind t = not (member ticketKinds (t .kind))
 
--- 7: an unused byte not 0; id 1 elsewhere than as c of an insertion of kind 2; an id above the highest.
+-- How many ids the ticket uses.
 abbrev pub used : Ticket → ℕ
 used t = cond (makesProperty t) 3 (arity (t .kind))
 
@@ -67,6 +67,7 @@ markMisplaced t = eqb (t .a) 1 || (eqb (t .b) 1 || (eqb (t .c) 1 && not (makesPr
 abbrev pub aboveHighest : ℕ → Ticket → Bool
 aboveHighest top t = ltb top (t .a) || (ltb top (t .b) || ltb top (t .c))
 
+-- 7: an unused byte not 0; id 1 elsewhere than as c of an insertion of kind 2; an id above the highest.
 abbrev pub badIds : ℕ → Ticket → Bool
 badIds top t = unusedNotZero t || (markMisplaced t || aboveHighest top t)
 

@@ -1,10 +1,9 @@
 -- A word's kind and ids: its digits at the product's base.
 use Prim.Native.Nat.{ℕ, _+_, _*_, _/_, _%_, _≤_, _<_}
-use mathlib.Core.Path.{_≡_, refl}
+use mathlib.Core.Path.{_≡_}
 use mathlib.Core.List.{List, [], _∷_, map}
 use Rattle.rdfs.specs.Numbers.{Numbers, product}
-use Rattle.rdfs.specs.Facts.{cl, pr, ind, lit, csub, psub, dom, rng, ci, pi, kind, made}
-use Rattle.rdfs.specs.Words.{fact}
+use Rattle.rdfs.specs.Facts.{cl, pr, ind, lit, csub, psub, dom, rng, ci, pi, kind}
 
 abbrev pub kindOf : ℕ → ℕ
 kindOf w = w / product .base / product .base / product .base
@@ -21,9 +20,6 @@ thirdOf w = w % product .base
 -- kind × base³ + a × base² + b × base + c
 abbrev pub wordOf : ℕ → ℕ → ℕ → ℕ → ℕ
 wordOf k a b c = ((k * product .base + a) * product .base + b) * product .base + c
-
-pub fact-parts : (w : ℕ) → fact (product .base) w ≡ made (kindOf w) (firstOf w) (secondOf w) (thirdOf w)
-fact-parts w = refl
 
 -- The kinds' numbers, in the order in which `Fact` has them.
 abbrev pub kindNumbers : List ℕ

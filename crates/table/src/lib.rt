@@ -14,7 +14,6 @@ pub use layout::BAD_LAYOUT;
 pub use layout::BAD_SIZE;
 pub use layout::count_facts;
 pub use layout::is_bad_size;
-pub use layout::is_laid_out;
 pub use layout::layout_refusal;
 pub use room::clear_from;
 pub use room::copy_words;

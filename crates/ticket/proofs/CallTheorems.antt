@@ -1,6 +1,6 @@
 -- Demands 1 and 2 about the single call itself: r is what `apply` answers and v the words it leaves, and all that is known of them is its
 -- contract, `Answered`. Assumes nothing.
-use Prim.Native.Nat.{ℕ, zero, suc}
+use Prim.Native.Nat.{ℕ}
 use mathlib.Core.Path.{_≡_, sym, ap, subst, _∙_}
 use mathlib.Core.Bool.{Bool, true, false}
 use mathlib.Core.Logic.{_⊎_, inl, inr, ⊎-elim}
@@ -13,45 +13,26 @@ use Rattle.rdfs.specs.Facts.{Fact, graph, _⊑_}
 use Rattle.rdfs.specs.Consistency.{Smallest, Largest, keeps}
 use Rattle.rdfs.specs.Words.{facts}
 use Rattle.rdfs.specs.Tickets as defs
-use Rattle.rdfs.specs.Register.{orElse, badSize, badLayout, inconsistent, tooMany, step, Answer, Table}
-use Rattle.rdfs.proofs.Refusals.{Formed, new, refusal, Passed, passed}
+use Rattle.rdfs.specs.Register.{orElse, step, Answer, Table}
+use Rattle.rdfs.specs.Promises.{After, Formed, Possible, PossibleUpTo, unchanged}
+use Rattle.rdfs.proofs.Refusals.{Passed, passed}
 use Rattle.rdfs.proofs.Steps.{step-number, refused-keeps}
 use Rattle.rdfs.proofs.TicketTests.{known-operation}
-use Rattle.rdfs.proofs.Possible.{Possible}
-use Rattle.rdfs.proofs.AfterEach.{After, after}
-use Rattle.rdfs.proofs.Within.{unchanged}
+use Rattle.rdfs.proofs.AfterEach.{after}
 use Rattle.rdfs.proofs.Theorems.{product-sound, insertion-is-smallest, ten-is-exact, eleven-only-if-full, deletion-is-largest, repeat-changes-nothing}
 use Rattle.ticket.specs.Answered.{Answered}
+use Rattle.ticket.specs.Demand1.{conditions, First, none, here, later, Demand1}
 use Rattle.ticket.specs.declared.Applied.{Applied}
 
--- The conditions of refusals 1 to 11 in order, on words w and bytes b.
-abbrev pub conditions : List ℕ → List ℕ → List Bool
-conditions w b =
-    let t : defs.Ticket = defs.decoded b in
-    let K : List Fact = facts product w in
-    let n : List Fact = new product w b in
-    badSize product w ∷ badLayout product w ∷ inconsistent product w ∷ defs.badLength b ∷ defs.badOperation t ∷ defs.badKind t ∷ defs.badIds (product .top) t ∷ defs.guarded t
-    ∷ defs.unknownProperty K t ∷ defs.clashing n t ∷ tooMany product w n ∷ []
-
--- m is the number of the first condition that holds, counted from n; 0 if none holds.
-pub data First : List Bool → ℕ → ℕ → Type 0 where
-  none : {n : ℕ} → First [] n 0
-  here : {t : Bool} {l : List Bool} {n : ℕ} → T t → First (t ∷ l) n n
-  later : {t : Bool} {l : List Bool} {n m : ℕ} → (T t → ⊥) → First l (suc n) m → First (t ∷ l) n m
-
 -- One link of the chain of refusals.
-link : (t : Bool) (l : List Bool) (n rest : ℕ) → First l (suc n) rest → First (t ∷ l) n (orElse t n rest)
+link : (t : Bool) (l : List (ℕ × Bool)) (n rest : ℕ) → First l rest → First ((n, t) ∷ l) (orElse t n rest)
 link true l n rest h = here tt
 link false l n rest h = later (λ f. f) h
 
--- Demand 1: whatever the bytes and the table, the answer is 0 or the first refusal whose condition holds, and a refusal moves nothing.
-pub record Demand1 (w b v : List ℕ) (r : Applied) : Type 0 where
-  pub first : First (conditions w b) 1 (r .answer)
-  pub moves-nothing : (r .answer ≡ 0 → ⊥) → (v ≡ w) × (r .added ≡ 0) × (r .removed ≡ 0)
-
+-- Demand 1: the answer is 0 or the first refusal whose condition holds, and a refusal moves nothing.
 pub demand-1 : (w b v : List ℕ) (r : Applied) → Answered r v (step product w b) → Demand1 w b v r
 demand-1 w b v r a = record {
-  first = subst (First (conditions w b) 1) (sym (a .number ∙ step-number product w b)) (link _ _ 1 _ (link _ _ 2 _ (link _ _ 3 _ (link _ _ 4 _ (link _ _ 5 _ (link _ _ 6 _ (link _ _ 7 _ (link _ _ 8 _ (link _ _ 9 _ (link _ _ 10 _ (link _ [] 11 0 none)))))))))));
+  first = subst (First (conditions w b)) (sym (a .number ∙ step-number product w b)) (link _ _ 1 _ (link _ _ 2 _ (link _ _ 3 _ (link _ _ 4 _ (link _ _ 5 _ (link _ _ 6 _ (link _ _ 7 _ (link _ _ 8 _ (link _ _ 9 _ (link _ _ 10 _ (link _ [] 11 0 none)))))))))));
   moves-nothing = λ n. let k = refused-keeps product w b (λ e. n (a .number ∙ e)) in (a .words ∙ k .table, a .added ∙ k .added, a .removed ∙ k .removed);
 }
 
@@ -65,10 +46,10 @@ module _ (w b v : List ℕ) (r : Applied) (t : Table product w) (a : Answered r 
   call-smallest i e = subst (λ x. Smallest (graph (facts product w)) (graph (defs.asked (defs.decoded b))) (graph (facts product x))) (sym (a .words))
       (insertion-is-smallest product product-sound w b t i (zero-number e))
 
-  -- Past refusal 9, 10 exactly if there is none.
+  -- Past refusal 9, 10 exactly if there is none, whatever its ids; else there is one whose facts a table can have.
   pub call-ten : T (defs.inserts (defs.decoded b)) → Formed product b → (T (defs.unknownProperty (facts product w) (defs.decoded b)) → ⊥)
       → (r .answer ≡ 10 → Possible (graph (facts product w)) (graph (defs.asked (defs.decoded b))) → ⊥)
-      × ((r .answer ≡ 10 → ⊥) → Possible (graph (facts product w)) (graph (defs.asked (defs.decoded b))))
+      × ((r .answer ≡ 10 → ⊥) → PossibleUpTo (product .top) (graph (facts product w)) (graph (defs.asked (defs.decoded b))))
   call-ten i f u = let x = ten-is-exact product product-sound w b t i f u in ((λ e. x .0 (sym (a .number) ∙ e)), (λ n. x .1 (λ e. n (a .number ∙ e))))
 
   -- 11 only if no table of as many words holds a consistent graph with the table's facts and the asked ones.

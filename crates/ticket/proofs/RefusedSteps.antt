@@ -15,9 +15,10 @@ use Rattle.rdfs.specs.Insertion.{insertion}
 use Rattle.rdfs.specs.Tickets.{decoded, inserts, asked, badLength, unknownProperty, clashing}
 use Rattle.rdfs.specs.Lookups.{lookupClash}
 use Rattle.rdfs.specs.Register.{orElse, badSize, badLayout, inconsistent, tableRefusal, tooMany, answer, step, Table}
+use Rattle.rdfs.specs.Promises.{Formed}
 use Rattle.rdfs.proofs.Tests.{and-both, both-and}
 use Rattle.rdfs.proofs.TicketTests.{known-kind, uses-known}
-use Rattle.rdfs.proofs.Refusals.{Sane, Formed, new, refusal, to-9, pass-link, stop-link, refuse-10}
+use Rattle.rdfs.proofs.Refusals.{Sane, new, refusal, to-9, pass-link, stop-link, refuse-10}
 use Rattle.rdfs.proofs.Steps.{table-sane, table-allowed, step-number, wrong-length}
 use Rattle.rdfs.proofs.InsertionSteps.{new-is}
 use Rattle.rdfs.proofs.Theorems.{product-sound, lookup-clash-is-clash}

@@ -17,10 +17,10 @@ use Rattle.rdfs.specs.Deletion.{deletion}
 use Rattle.rdfs.specs.Tickets.{asked, unknownProperty}
 use Rattle.rdfs.specs.Lookups.{lookupClash}
 use Rattle.rdfs.specs.Register.{orElse, tooMany, step}
+use Rattle.rdfs.specs.Promises.{Formed}
 use Rattle.rdfs.proofs.Facts.{tests-all-has}
 use Rattle.rdfs.proofs.LaidOut.{laid-shape}
 use Rattle.rdfs.proofs.TicketTests.{known-kind, uses-known}
-use Rattle.rdfs.proofs.Refusals.{Formed}
 use Rattle.rdfs.proofs.Theorems.{product-sound}
 use Rattle.rdfs.proofs.InsertionSteps.{new-is}
 use Rattle.rdfs.proofs.Within.{repeated-insertion}

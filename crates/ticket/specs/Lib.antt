@@ -1,2 +1,3 @@
 pub mod Form
 pub mod Answered
+pub mod Demand1

@@ -4,8 +4,9 @@
 // every word afterwards; they are those of the plain register. The other functions serve the crates above: `apply_checked` is the same on a
 // table known to be consistent, and `apply_ticket` on a ticket by its fields. The crate assumes nothing.
 //
-// A ticket that is refused, or that changes nothing, costs a few lookups: no copy and no pass over the table, but for the check in `apply`. An
-// insertion that puts something in first saves the words of the table's facts, 8 KB of stack, and puts them back if the new graph does not fit.
+// A ticket that is refused with 4 to 10, or that changes nothing, costs a few lookups: no copy and no pass over the table, but for the check in
+// `apply`. An insertion that puts something in first saves the words of the table's facts, 8 KB of stack, and puts them back if the new graph
+// does not fit, 11.
 ghost use Rattle.rdfs.specs.Numbers.{product};
 ghost use Rattle.rdfs.specs.Register.{step, Table};
 ghost use Rattle.ticket.specs.Form.{bytesOf};
@@ -13,6 +14,8 @@ ghost use Rattle.ticket.specs.Answered.{Answered};
 use crate::answer::answer_of;
 use crate::answer::refused;
 use crate::form::INSERT;
+use crate::form::decode;
+use crate::form::form_refusal;
 use crate::form::wide;
 use crate::step::run_deletion;
 use crate::step::run_insertion;
@@ -28,8 +31,6 @@ mod step;
 
 pub use form::RECORD;
 pub use form::Ticket;
-pub use form::decode;
-pub use form::form_refusal;
 
 // Refusal 4: the length of a record.
 pub const BAD_LENGTH: u8 = 4;

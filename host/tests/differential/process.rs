@@ -12,22 +12,20 @@ pub struct Program {
 
 impl Program {
     /// Program one: VIMELOSA_APPLY_TICKETS, or target/bin/apply_tickets of the repository.
-    pub fn one() -> Option<Program> {
+    pub fn one() -> Program {
         Program::find("VIMELOSA_APPLY_TICKETS", "../target/bin/apply_tickets")
     }
 
     /// Program two: VIMELOSA_PRINT_FACTS, or target/bin/print_facts of the repository.
-    pub fn two() -> Option<Program> {
+    pub fn two() -> Program {
         Program::find("VIMELOSA_PRINT_FACTS", "../target/bin/print_facts")
     }
 
-    fn find(variable: &str, place: &str) -> Option<Program> {
+    fn find(variable: &str, place: &str) -> Program {
         let built = Path::new(env!("CARGO_MANIFEST_DIR")).join(place);
         let path = env::var_os(variable).map_or(built, PathBuf::from);
-        if path.is_file() {
-            return Some(Program { path });
-        }
-        panic!("{} is not there: build the programs first", path.display());
+        assert!(path.is_file(), "{} is not there: build the programs first", path.display());
+        Program { path }
     }
 
     /// What the program prints for the input.

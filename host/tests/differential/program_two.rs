@@ -13,9 +13,7 @@ fn assert_same(program: &Program, image: &[u8]) {
 
 #[test]
 fn on_images_and_damaged_images() {
-    let Some(program) = Program::two() else {
-        return;
-    };
+    let program = Program::two();
     let mut random = Random::for_test("program_two_on_images");
     for round in 0..rounds(250) {
         let whole = image(&graphs::grown(&mut random, &ALL_IDS[round % 4], 40, 2048));
@@ -30,9 +28,7 @@ fn on_images_and_damaged_images() {
 
 #[test]
 fn on_every_length_and_on_full_images() {
-    let Some(program) = Program::two() else {
-        return;
-    };
+    let program = Program::two();
     let mut random = Random::for_test("program_two_on_every_length");
     let whole = image(&graphs::filled(&mut random, 150));
     for length in 0..whole.len() {
@@ -48,9 +44,7 @@ fn on_every_length_and_on_full_images() {
 
 #[test]
 fn on_changed_contents() {
-    let Some(program) = Program::two() else {
-        return;
-    };
+    let program = Program::two();
     let mut random = Random::for_test("program_two_on_changed_contents");
     let whole = image(&graphs::grown(&mut random, &MANY, 40, 2048));
     for changed in each_contents_byte_changed(&whole) {
@@ -60,6 +54,6 @@ fn on_changed_contents() {
 
 #[test]
 fn on_overlong_images() {
-    let Some(program) = Program::two() else { return };
+    let program = Program::two();
     assert_eq!(program.output(&image(&graphs::overlong())), "");
 }
