@@ -7,11 +7,11 @@ use native.Mathlib.Omega.{arith}
 use native.Mathlib.Nat.{div-le-of-le-mul}
 use lib.Dec.{eqb, leb, ltb}
 use lib.ListN.{length}
-use Rattle.rdfs.specs.Numbers.{Numbers, product, recordLength}
+use Rattle.rdfs.specs.Numbers.{product, recordLength}
 use Rattle.rdfs.specs.Words.{facts, fresh}
 use Rattle.rdfs.specs.Demands.{needs}
 use Rattle.rdfs.specs.Clashes.{bars, unequal, existsFor, consistent?}
-use Rattle.rdfs.specs.Register.{Done, cut, Table}
+use Rattle.rdfs.specs.Register.{cut, Table}
 use Rattle.rdfs.proofs.Cut.{cut-length}
 use Rattle.rdfs.proofs.Decision.{check-sound}
 use Rattle.rdfs.proofs.AfterEach.{run-table}

@@ -5,7 +5,7 @@ use mathlib.Core.List.{List, [], _∷_, _++_, append-nil, append-assoc}
 use native.Mathlib.Omega.{arith}
 use lib.ListN.{length, take, drop, length-append}
 use Rattle.rdfs.specs.Numbers.{product, recordLength}
-use Rattle.rdfs.specs.Register.{Answer, step, run, Done, cut, Table}
+use Rattle.rdfs.specs.Register.{Answer, step, run, cut, Table}
 use Rattle.rdfs.proofs.AfterEach.{run-table}
 use Rattle.rdfs.proofs.Theorems.{product-sound}
 use Rattle.ticket.specs.Answered.{Answered}

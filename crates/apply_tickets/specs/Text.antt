@@ -4,7 +4,7 @@ use mathlib.Core.Path.{_≡_}
 use mathlib.Core.List.{List, [], _∷_, _++_}
 use lib.ListN.{length, take}
 use Rattle.rdfs.specs.Numbers.{product}
-use Rattle.rdfs.specs.Register.{Answer, step, run, Done}
+use Rattle.rdfs.specs.Register.{step, run}
 use Rattle.io.specs.Digits.{digits, Fewest}
 
 -- A number in decimal, with no zero in front, and a byte after it.

@@ -65,9 +65,6 @@ word-made {k} i B a b c =
     let f : Fact = made k a b c in
     ap (λ n. ((n * B + first f) * B + second f) * B + third f) (i .of-kind a b c) ∙ ap (λ l. ((k * B + getD l 0 0) * B + getD l 1 0) * B + getD l 2 0) (i .has-ids a b c)
 
-pub own-ids : (f : Fact) → ids f ≡ take (arity (kind f)) (first f ∷ second f ∷ third f ∷ [])
-own-ids f = let k = fact-kind f in ap ids (sym (made-of f)) ∙ is-kind (kind f) (k .0) (k .1) .has-ids (first f) (second f) (third f)
-
 pub ids-count : (f : Fact) → length (ids f) ≡ arity (kind f)
 ids-count f = sym (arity-is f)
 

@@ -7,8 +7,7 @@ use native.Mathlib.Omega.{arith}
 use lib.Dec.{eqb}
 use Rattle.rdfs.specs.Numbers.{product}
 use Rattle.rdfs.specs.Lists.{_∈_, here}
-use Rattle.rdfs.specs.Facts.{Fact, kind, first, made}
-use Rattle.rdfs.specs.Words.{fact}
+use Rattle.rdfs.specs.Facts.{Fact, kind, first}
 use Rattle.rdfs.specs.Demands.{withA}
 use Rattle.rdfs.specs.Lookups.{firstB}
 use Rattle.rdfs.proofs.Lists.{in-filter}

@@ -6,7 +6,7 @@ use native.Mathlib.Omega.{arith}
 use lib.ListN.{length, take, getD, length-take}
 use Rattle.rdfs.specs.Numbers.{product, recordLength}
 use Rattle.rdfs.specs.Words.{facts}
-use Rattle.rdfs.specs.Register.{step, run, Done, cut, register, Table}
+use Rattle.rdfs.specs.Register.{step, run, cut, register, Table}
 use Rattle.rdfs.specs.Orders.{SameTickets, InOrder, AllInsertions, AllAccepted}
 use Rattle.rdfs.specs.Promises.{After}
 use Rattle.rdfs.proofs.Perms.{same-tickets-length}

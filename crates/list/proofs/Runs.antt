@@ -8,7 +8,7 @@ use lib.Dec.{eqb}
 use lib.ListN.{length, take, drop, getD}
 use lib.Seq.{take-suc, split-at, getD-at, length-take-le}
 use Rattle.rdfs.specs.Numbers.{Numbers, product, recordLength}
-use Rattle.rdfs.specs.Register.{step, run, Done, cut, register}
+use Rattle.rdfs.specs.Register.{step, run, cut, register}
 use Rattle.rdfs.proofs.Steps.{step-length}
 use Rattle.rdfs.proofs.AfterEach.{run-append}
 use Rattle.list.specs.Listing.{acceptedOf, refusedOf}

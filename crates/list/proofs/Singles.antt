@@ -4,7 +4,7 @@ use mathlib.Core.Path.{refl, subst}
 use mathlib.Core.List.{List, [], _∷_}
 use lib.ListN.{take}
 use Rattle.rdfs.specs.Numbers.{product}
-use Rattle.rdfs.specs.Register.{step, Answer, run, Done}
+use Rattle.rdfs.specs.Register.{step, run}
 use Rattle.ticket.specs.Answered.{Answered}
 use Rattle.list.specs.Demand3.{Calls, Contracts, Single, OneByOne, RanSingly}
 

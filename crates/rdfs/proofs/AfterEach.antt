@@ -2,25 +2,18 @@
 -- an insertion removed nothing and a deletion added nothing. Assumes nothing.
 use Prim.Native.Nat.{ℕ}
 use mathlib.Core.Path.{_≡_, refl, sym, ap, subst, _∙_}
-use mathlib.Core.Bool.{Bool}
-use mathlib.Core.Logic.{_⊎_, inl, inr, ⊎-elim}
+use mathlib.Core.Logic.{⊎-elim}
 use mathlib.Core.List.{List, [], _∷_, _++_}
 use native.Mathlib.Decide.{ℕ-discrete}
-use lib.Dec.{T}
-use lib.ListN.{length}
 use Rattle.rdfs.specs.Numbers.{Numbers, Sound}
-use Rattle.rdfs.specs.Lists.{_∈_, _⊆_}
-use Rattle.rdfs.specs.Facts.{Fact}
-use Rattle.rdfs.specs.Words.{filled, facts, words}
-use Rattle.rdfs.specs.Tickets.{decoded, inserts, deletes, named, asked}
-use Rattle.rdfs.specs.Register.{Answer, step, run, Done, Table}
+use Rattle.rdfs.specs.Lists.{_∈_}
+use Rattle.rdfs.specs.Words.{facts}
+use Rattle.rdfs.specs.Tickets.{decoded}
+use Rattle.rdfs.specs.Register.{step, run, Table}
 use Rattle.rdfs.specs.Promises.{After, Formed}
-use Rattle.rdfs.proofs.Tables.{words-sub}
-use Rattle.rdfs.proofs.LaidOut.{laid-words}
-use Rattle.rdfs.proofs.Counts.{besides-none}
 use Rattle.rdfs.proofs.TicketTests.{known-operation}
-use Rattle.rdfs.proofs.Refusals.{new, Passed, passed}
-use Rattle.rdfs.proofs.Steps.{Kept, step-number, refused-keeps, accepted-leaves}
+use Rattle.rdfs.proofs.Refusals.{passed}
+use Rattle.rdfs.proofs.Steps.{step-number, refused-keeps}
 use Rattle.rdfs.proofs.InsertionSteps.{accepted-smallest, insertion-table, insertion-grows}
 use Rattle.rdfs.proofs.DeletionSteps.{accepted-largest, deletion-table, deletion-shrinks}
 

@@ -1,6 +1,6 @@
 -- What an insertion ticket asks for, on a consistent table that has the properties it uses, gives `Seeds`. Assumes nothing.
-use Prim.Native.Nat.{ℕ, zero, suc, _<_}
-use mathlib.Core.Path.{_≡_, refl, sym, ap, subst, _∙_}
+use Prim.Native.Nat.{ℕ}
+use mathlib.Core.Path.{_≡_, refl, sym, ap, _∙_}
 use mathlib.Core.Logic.{_⊎_, inl, inr, ⊎-elim}
 use mathlib.Core.List.{List, [], _∷_}
 use native.Mathlib.Omega.{arith}
@@ -11,7 +11,7 @@ use Rattle.rdfs.specs.Consistency.{Consistent}
 use Rattle.rdfs.specs.Insertion.{addAll}
 use Rattle.rdfs.specs.Tickets.{Ticket, asked}
 use Rattle.rdfs.specs.Orders.{Uses}
-use Rattle.rdfs.proofs.Lists.{in-cons, in-one, none-in}
+use Rattle.rdfs.proofs.Lists.{in-cons, in-one}
 use Rattle.rdfs.proofs.Closure.{in-addAll, addAll-keeps, addAll-has}
 use Rattle.rdfs.proofs.Seeds.{Seeds}
 use Rattle.rdfs.proofs.TicketTests.{by-kind, ticketOf}

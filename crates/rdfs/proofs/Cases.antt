@@ -1,7 +1,7 @@
 -- The cases of document 01 as one list, computed on the definitions. Assumes nothing.
 use Prim.Native.Nat.{ℕ}
 use mathlib.Core.Path.{_≡_, refl}
-use mathlib.Core.List.{List, [], _∷_, _++_}
+use mathlib.Core.List.{List, [], _∷_}
 use lib.ListN.{replicate}
 use Rattle.rdfs.specs.Numbers.{product}
 use Rattle.rdfs.specs.Words.{fresh}
@@ -9,7 +9,7 @@ use Rattle.rdfs.specs.Demands.{by18, by20, by22, by23, by24, by25, by26,
 use Rattle.rdfs.specs.Clashes.{bars, unequal, existsFor, consistent?}
 use Rattle.rdfs.specs.Insertion.{closure, insertion}
 use Rattle.rdfs.specs.Deletion.{goes, deletion}
-use Rattle.rdfs.specs.Register.{step, run, register, Done, Answer}
+use Rattle.rdfs.specs.Register.{step, run, register, Done}
 
 -- P1 to P12, five bytes each.
 abbrev tickets : List ℕ

@@ -1,12 +1,12 @@
 -- What one list has beside another: nothing exactly if it lies within it; and the two counts balance the lengths. Assumes nothing.
-use Prim.Native.Nat.{ℕ, _+_, _<_}
-use mathlib.Core.Path.{_≡_, refl, sym, ap, subst}
-use mathlib.Core.Bool.{Bool, true, false, not}
+use Prim.Native.Nat.{ℕ, _+_}
+use mathlib.Core.Path.{_≡_, ap}
+use mathlib.Core.Bool.{not}
 use mathlib.Core.List.{List}
 use native.Mathlib.Omega.{arith}
-use lib.Dec.{T, T-not}
+use lib.Dec.{T-not}
 use lib.ListN.{length}
-use Rattle.rdfs.specs.Lists.{_∈_, here, there, _⊆_, filter, member, Ascending}
+use Rattle.rdfs.specs.Lists.{_⊆_, filter, member, Ascending}
 use Rattle.rdfs.specs.Register.{besides}
 use Rattle.rdfs.proofs.Lists.{in-filter, filter-in}
 use Rattle.rdfs.proofs.Sorted.{ascending-equal}
@@ -15,19 +15,6 @@ use Rattle.rdfs.proofs.Filters.{filter-none, filter-split, filter-ascen
 
 pub besides-none : (old new : List ℕ) → new ⊆ old → besides old new ≡ 0
 besides-none old new s = ap length (filter-none (λ x. not (member old x)) new (λ x h t. T-not (member old x) t (in-member old x (s x h))))
-
-in-length : {A : Type 0} {x : A} {l : List A} → x ∈ l → 0 < length l
-in-length (here e) = omega arith
-in-length (there h) = omega arith
-
-pub besides-some : (old new : List ℕ) → besides old new ≡ 0 → new ⊆ old
-besides-some old new e x h = go (member old x) refl
-  where
-    go : (b : Bool) → member old x ≡ b → x ∈ old
-    go true q = member-in old x (subst T (sym q) tt)
-    go false q =
-        let missing : x ∈ filter (λ y. not (member old y)) new = filter-in (λ y. not (member old y)) new h (subst (λ b. T (not b)) (sym q) tt) in
-        absurd (omega (arith, e, in-length missing))
 
 -- The numbers that two lists share, taken from the one, are among those taken from the other; ascending, they are one list.
 common : (l m : List ℕ) → filter (member m) l ⊆ filter (member l) m

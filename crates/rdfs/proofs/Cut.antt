@@ -7,18 +7,14 @@ use native.Mathlib.Omega.{arith}
 use native.Mathlib.Nat.{div-eq-of-lt, mod-eq-of-lt, div-eq-sub-div, mod-eq-sub-mod}
 use native.Mathlib.Decide.{decLt}
 use lib.Dec.{eqb}
-use lib.ListN.{length, take, drop, length-drop, take-append-drop, drop-of-length-le}
+use lib.ListN.{length, take, drop, length-drop, drop-of-length-le}
 use lib.Seq.{take-all, take-at, drop-at}
 use borrow.Author.Tests.{ne-eqb}
-use Rattle.rdfs.specs.Lists.{concatMap}
 use Rattle.rdfs.specs.Register.{cutWithin, cut}
 
 -- How many tickets a number of bytes makes.
 abbrev ticketCount : ℕ → ℕ → ℕ
 ticketCount n k = k / n + cond (eqb (k % n) 0) 0 1
-
-pub cut-none : (n : ℕ) → cut n [] ≡ []
-cut-none n = refl
 
 module _ (n : ℕ) (some : 0 < n) where
   drop-shorter : (x : ℕ) (l : List ℕ) (limit : ℕ) → length l ≤ limit → length (drop n (x ∷ l)) ≤ limit
@@ -70,9 +66,6 @@ module _ (n : ℕ) (some : 0 < n) where
   pub cut-length : (l : List ℕ) → length (cut n l) ≡ length l / n + cond (eqb (length l % n) 0) 0 1
   cut-length = cut-induction (λ l c. length c ≡ ticketCount n (length l)) (sym count-none)
       (λ x l c e. ap suc (e ∙ ap (ticketCount n) (length-drop n (x ∷ l))) ∙ sym (count-more (length (x ∷ l)) (omega arith)))
-
-  pub cut-joined : (l : List ℕ) → concatMap (λ t. t) (cut n l) ≡ l
-  cut-joined = cut-induction (λ l c. concatMap (λ t. t) c ≡ l) refl (λ x l c e. ap (λ r. take n (x ∷ l) ++ r) e ∙ take-append-drop n (x ∷ l))
 
 pub cut-short : (n : ℕ) (t : List ℕ) → 0 < length t → length t ≤ n → cut n t ≡ t ∷ []
 cut-short n [] s h = absurd (omega arith)

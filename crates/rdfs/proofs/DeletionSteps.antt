@@ -1,9 +1,9 @@
 -- A deletion on a consistent table: past refusal 8 it is accepted and leaves the largest part; with its fact gone, it changes nothing.
 -- Assumes nothing.
-use Prim.Native.Nat.{ℕ, zero, suc, _≤_, _<_}
+use Prim.Native.Nat.{ℕ, _≤_}
 use mathlib.Core.Path.{_≡_, refl, sym, ap, subst, _∙_}
-use mathlib.Core.Bool.{Bool, true, false, _&&_, _||_}
-use mathlib.Core.Logic.{_⊎_, inl, inr, ⊎-elim}
+use mathlib.Core.Bool.{Bool, true, false, _||_}
+use mathlib.Core.Logic.{inl}
 use mathlib.Core.List.{List, map}
 use native.Mathlib.Omega.{arith}
 use lib.Dec.{T, eqb, eqb→eq, ltb→lt}
@@ -11,13 +11,13 @@ use lib.ListN.{length}
 use Rattle.rdfs.specs.Numbers.{Numbers, Sound, ticketKinds}
 use Rattle.rdfs.specs.Lists.{_∈_, _⊆_}
 use Rattle.rdfs.specs.Facts.{Fact, graph}
-use Rattle.rdfs.specs.Consistency.{Consistent, Largest, keeps}
+use Rattle.rdfs.specs.Consistency.{Largest, keeps}
 use Rattle.rdfs.specs.Words.{word, filled, facts, words, padded}
 use Rattle.rdfs.specs.Clashes.{clashes}
 use Rattle.rdfs.specs.Insertion.{insertion}
 use Rattle.rdfs.specs.Deletion.{deletion}
-use Rattle.rdfs.specs.Tickets.{Ticket, decoded, inserts, deletes, named, asked, guarded, unknownProperty, clashing}
-use Rattle.rdfs.specs.Register.{step, tooMany, Table}
+use Rattle.rdfs.specs.Tickets.{Ticket, decoded, inserts, deletes, named, asked, guarded}
+use Rattle.rdfs.specs.Register.{step, Table}
 use Rattle.rdfs.specs.Promises.{Formed, unchanged}
 use Rattle.rdfs.proofs.Tests.{and-both, both-and, either-or}
 use Rattle.rdfs.proofs.Sorted.{sort-ascending, sub-length}

@@ -1,24 +1,22 @@
 -- An insertion on a consistent table: accepted, it leaves the smallest graph; refused with 10, there is none; with its facts all there, it
 -- changes nothing. Assumes nothing.
-use Prim.Native.Nat.{ℕ, zero, suc, _≤_, _<_}
+use Prim.Native.Nat.{ℕ, _≤_, _<_}
 use mathlib.Core.Path.{_≡_, refl, sym, ap, subst, _∙_}
-use mathlib.Core.Bool.{Bool, true, false, not, _&&_}
-use mathlib.Core.Logic.{_⊎_, inl, inr, ⊎-elim}
-use mathlib.Core.List.{List, [], map}
+use mathlib.Core.Bool.{Bool, true, false, not}
+use mathlib.Core.List.{List, map}
 use native.Mathlib.Omega.{arith}
 use lib.Dec.{T, eqb, ltb→lt}
 use lib.ListN.{length}
-use Rattle.rdfs.specs.Numbers.{Numbers, Sound, ticketKinds}
+use Rattle.rdfs.specs.Numbers.{Numbers, Sound}
 use Rattle.rdfs.specs.Lists.{_∈_, _⊆_}
-use Rattle.rdfs.specs.Facts.{Fact, pr, Graph, graph, _⊑_}
-use Rattle.rdfs.specs.Consistency.{Consistent, Smallest}
+use Rattle.rdfs.specs.Facts.{Fact, Graph, graph, _⊑_}
+use Rattle.rdfs.specs.Consistency.{Smallest}
 use Rattle.rdfs.specs.Words.{word, filled, facts, words, padded}
 use Rattle.rdfs.specs.Clashes.{clashes}
 use Rattle.rdfs.specs.Insertion.{insertion}
 use Rattle.rdfs.specs.Deletion.{deletion}
-use Rattle.rdfs.specs.Tickets.{Ticket, decoded, inserts, asked, named, outcome, unknownProperty, clashing}
-use Rattle.rdfs.specs.Register.{step, tooMany, Table}
-use Rattle.rdfs.specs.Orders.{Uses}
+use Rattle.rdfs.specs.Tickets.{decoded, inserts, asked, named, unknownProperty}
+use Rattle.rdfs.specs.Register.{step, Table}
 use Rattle.rdfs.specs.Promises.{Formed, Possible, PossibleUpTo}
 use Rattle.rdfs.proofs.Tests.{and-both, both-and}
 use Rattle.rdfs.proofs.Parts.{All, consistent-same}

@@ -17,8 +17,7 @@ use Rattle.rdfs.proofs.Tests.{and-both, both-and, differ, differs, test
 use Rattle.rdfs.proofs.Lists.{in-cons, none-in, all-in, in-all, in-map, map-in}
 use Rattle.rdfs.proofs.Filters.{cond-no, filter-all, filter-none, filter-append, filter-split}
 use Rattle.rdfs.proofs.Sorted.{ascending-equal, in-sort, sort-has, sort-ascending}
-use Rattle.rdfs.proofs.Digits.{word-some, fact-word}
-use Rattle.rdfs.proofs.Allowed.{allowed-below}
+use Rattle.rdfs.proofs.Digits.{word-some}
 
 -- A word that is a fact: it is its fact's word, and the fact is allowed.
 module _ (N : Numbers) (x : ℕ) (t : T (isFact N x)) where
@@ -144,8 +143,3 @@ module _ (N : Numbers) (w : List ℕ) (t : T (laidOut N 1 w)) where
 
   pub laid-fits : length (words N (facts N w)) ≤ length w
   laid-fits = subst (λ l. length l ≤ length w) (sym laid-words) (omega (arith, filter-split (λ x. not (eqb x 0)) w))
-
--- A fact is one of the table if its word is.
-pub fact-member : (N : Numbers) → Sound N → (w : List ℕ) → T (laidOut N 1 w) → (f : Fact) → T (allowed (N .top) f)
-    → (f ∈ facts N w → word (N .base) f ∈ filled w) × (word (N .base) f ∈ filled w → f ∈ facts N w)
-fact-member N s w t f a = (laid-word-in N w t f, λ h. subst (λ g. g ∈ facts N w) (fact-word (N .base) f (allowed-below N s f a)) (map-in (fact (N .base)) h))

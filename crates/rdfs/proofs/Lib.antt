@@ -30,7 +30,6 @@ pub mod DeletionLaws
 pub mod Seeds
 pub mod InsertionSmallest
 pub mod TicketTests
-pub mod AtRest
 pub mod AskedSeeds
 pub mod Refusals
 pub mod Steps

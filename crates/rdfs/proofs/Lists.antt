@@ -4,7 +4,7 @@ use mathlib.Core.Bool.{Bool, true, false, cond}
 use mathlib.Core.Logic.{_⊎_, inl, inr, ⊎-elim}
 use mathlib.Core.List.{List, [], _∷_, _++_, map}
 use lib.Dec.{T}
-use Rattle.rdfs.specs.Lists.{_∈_, here, there, _⊆_, filter, concatMap, all, any}
+use Rattle.rdfs.specs.Lists.{_∈_, here, there, filter, concatMap, all, any}
 use Rattle.rdfs.proofs.Tests.{and-both, both-and, either-or, or-either}
 
 module _ {A : Type 0} where

@@ -26,9 +26,3 @@ module _ (K : List Fact) (c : Consistent (graph K)) where
 
   pub range-in : (p : ℕ) → pr p ∈ K → rng p (rangeOf K p) ∈ K
   range-in p h = end-in K 8 p (to-a K (c .rule-15 p h .1 .1)) .1
-
-  pub domain-is : (p w : ℕ) → dom p w ∈ K → w ≡ domainOf K p
-  domain-is p w h = c .rule-16 p w (domainOf K p) h (domain-in p (c .rule-9 p w h .0))
-
-  pub range-is : (p w : ℕ) → rng p w ∈ K → w ≡ rangeOf K p
-  range-is p w h = c .rule-17 p w (rangeOf K p) h (range-in p (c .rule-10 p w h .0))

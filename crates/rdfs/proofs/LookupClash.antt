@@ -6,11 +6,10 @@ use mathlib.Core.Bool.{Bool}
 use mathlib.Core.Logic.{inl, inr}
 use mathlib.Core.List.{List, [], _∷_}
 use lib.Dec.{T}
-use Rattle.rdfs.specs.Numbers.{ticketKinds}
 use Rattle.rdfs.specs.Lists.{_∈_, here, there}
 use Rattle.rdfs.specs.Facts.{Fact, Graph, pr, csub, psub, rng, ci, pi, graph, _⊑_}
 use Rattle.rdfs.specs.Consistency.{Consistent}
-use Rattle.rdfs.specs.Tickets.{Ticket, asked, badIds}
+use Rattle.rdfs.specs.Tickets.{Ticket, asked}
 use Rattle.rdfs.specs.Lookups.{otherRole, domainOf, rangeOf, propertyClash, classLinkClash, propertyLinkClash, memberClash, valueClash, lookupClash}
 use Rattle.rdfs.specs.Orders.{Uses}
 use Rattle.rdfs.specs.Promises.{Judged, Possible}

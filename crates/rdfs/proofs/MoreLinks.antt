@@ -1,7 +1,7 @@
 -- A class link or a property link put into a schema, with what it carries by transitivity. Assumes nothing.
 use Prim.Native.Nat.{ℕ}
 use mathlib.Core.Path.{refl, sym, subst}
-use mathlib.Core.Logic.{_⊎_, inl, inr, ⊎-elim}
+use mathlib.Core.Logic.{inl, inr, ⊎-elim}
 use Rattle.rdfs.specs.Facts.{Graph, cl, pr, ind, lit, csub, psub, dom, rng, ci, pi, _⊑_}
 use Rattle.rdfs.proofs.Hierarchy.{Le, le-trans, Link, link-order}
 use Rattle.rdfs.proofs.OneRole.{RoleName, class, property, individual, literal, is, OneRole}

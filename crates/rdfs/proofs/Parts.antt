@@ -1,11 +1,10 @@
 -- Consistency in three parts: the rules that demand facts which their left side names in full, those that only forbid, and those that ask for
 -- some fact. Most proofs need one part only. Assumes nothing.
 use Prim.Native.Nat.{ℕ}
-use mathlib.Core.Path.{_≡_}
 use mathlib.Core.Logic.{_⊎_, inl, inr, ⊎-elim}
 use mathlib.Core.List.{List}
 use Rattle.rdfs.specs.Lists.{_∈_}
-use Rattle.rdfs.specs.Facts.{Fact, Graph, cl, pr, ind, lit, csub, psub, dom, rng, ci, pi, _⊑_}
+use Rattle.rdfs.specs.Facts.{Fact, Graph, pr, ind, lit, pi, _⊑_}
 use Rattle.rdfs.specs.Rules.{Meets, r4, r5, r6, r7, r8, r9, r10, r11, r13, r14, r15, r16, r17, r18, r19, r20, r21, r22, r23, r24, r25, r26, r27, h1, h2, h3, h4}
 use Rattle.rdfs.specs.Consistency.{Consistent}
 
@@ -81,9 +80,6 @@ forbids G c = record {
   fh2 = c .rule-h2;
   fh4 = c .rule-h4;
 }
-
-pub exists : (G : Graph) → Consistent G → Exists G
-exists G c = record { e12 = λ x y z h. c .rule-12 x y z h .2; e15 = c .rule-15; eh1 = c .rule-h1 }
 
 pub consistent-of : (G : Graph) → Demands G → Forbids G → Exists G → Consistent G
 consistent-of G d p e = record {

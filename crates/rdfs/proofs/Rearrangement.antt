@@ -1,12 +1,11 @@
 -- A rearranged list of accepted insertions is accepted whole and ends in the same words. The idea: each list ends in a consistent graph that
 -- holds what both ask for, so neither can leave it. Assumes nothing.
-use Prim.Native.Nat.{ℕ, zero, suc, _≤_, _<_}
+use Prim.Native.Nat.{ℕ, _≤_}
 use mathlib.Core.Path.{_≡_, refl, sym, ap, subst, _∙_}
-use mathlib.Core.Bool.{Bool, true, false, _&&_, cond}
-use mathlib.Core.Logic.{_⊎_, inl, inr, ⊎-elim}
+use mathlib.Core.Bool.{Bool, true, false, cond}
+use mathlib.Core.Logic.{⊎-elim}
 use mathlib.Core.List.{List, [], _∷_, _++_, append-assoc}
-use native.Mathlib.Omega.{arith}
-use lib.Dec.{T, eqb, eqb→eq}
+use lib.Dec.{T, eqb}
 use lib.ListN.{length}
 use Rattle.rdfs.specs.Numbers.{Numbers, Sound}
 use Rattle.rdfs.specs.Lists.{_∈_, here, there, _⊆_}
@@ -14,7 +13,7 @@ use Rattle.rdfs.specs.Facts.{Fact, pr, dom, rng, graph}
 use Rattle.rdfs.specs.Consistency.{Consistent}
 use Rattle.rdfs.specs.Words.{facts, words, padded}
 use Rattle.rdfs.specs.Tickets.{Ticket, decoded, inserts, makesProperty, named, asked}
-use Rattle.rdfs.specs.Register.{step, run, Done, Table}
+use Rattle.rdfs.specs.Register.{step, run, Table}
 use Rattle.rdfs.specs.Orders.{SameTickets, Uses, InOrder, AllInsertions, AllAccepted}
 use Rattle.rdfs.specs.Promises.{Formed}
 use Rattle.rdfs.proofs.Tests.{and-both}

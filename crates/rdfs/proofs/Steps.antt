@@ -1,15 +1,14 @@
 -- One ticket on a consistent table: what it leaves, refused or accepted. Assumes nothing.
 use Prim.Native.Nat.{ℕ, zero, suc, _≤_, _<_}
 use mathlib.Core.Path.{_≡_, refl, sym, ap, subst, _∙_}
-use mathlib.Core.Bool.{Bool, true, false, not}
-use mathlib.Core.Logic.{_⊎_, inl, inr, ⊎-elim}
+use mathlib.Core.Bool.{Bool, true, false}
+use mathlib.Core.Logic.{inl, inr, ⊎-elim}
 use mathlib.Core.List.{List}
 use native.Mathlib.Omega.{arith}
 use native.Mathlib.Decide.{ℕ-discrete}
 use lib.Dec.{T, eqb, ltb, leb, eqb→eq, T-not, not-T, leb→le, ltb→lt, nltb→le, nleb→lt}
 use lib.ListN.{length}
 use Rattle.rdfs.specs.Numbers.{Numbers, Sound, recordLength}
-use Rattle.rdfs.specs.Lists.{_∈_, _⊆_}
 use Rattle.rdfs.specs.Facts.{Fact, graph}
 use Rattle.rdfs.specs.Consistency.{Consistent}
 use Rattle.rdfs.specs.Words.{laidOut, filled, facts, words, padded}
@@ -19,7 +18,7 @@ use Rattle.rdfs.specs.Register.{Answer, answer, orElse, besides, step, b
 use Rattle.rdfs.proofs.Tests.{or-either, either-or}
 use Rattle.rdfs.proofs.Parts.{All, consistent-same}
 use Rattle.rdfs.proofs.Allowed.{Allowed}
-use Rattle.rdfs.proofs.Tables.{padded-length, facts-padded, laid-padded, words-same, filled-padded}
+use Rattle.rdfs.proofs.Tables.{padded-length, facts-padded, laid-padded}
 use Rattle.rdfs.proofs.LaidOut.{laid-allowed}
 use Rattle.rdfs.proofs.Decision.{check-sound, check-complete}
 use Rattle.rdfs.proofs.TicketTests.{stands}

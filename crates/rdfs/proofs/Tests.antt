@@ -63,9 +63,6 @@ tests-as e f g = record { sound = λ h. f (e .sound h); complete = λ q. e .comp
 pub tests-none : Tests false ⊥
 tests-none = record { sound = λ h. h; complete = λ h. h }
 
-pub tests-always : Tests true (Unit {0})
-tests-always = record { sound = λ h. h; complete = λ h. h }
-
 pub tests-self : (t : Bool) → Tests t (T t)
 tests-self t = record { sound = λ h. h; complete = λ h. h }
 

@@ -2,9 +2,9 @@
 -- proof names; docs/THEOREMS.md says what each rules out. Assumes nothing.
 use Prim.Native.Nat.{ℕ}
 use mathlib.Core.Path.{_≡_, refl}
-use mathlib.Core.Bool.{Bool, true, false, not}
+use mathlib.Core.Bool.{Bool, true, false}
 use mathlib.Core.Logic.{_⊎_, inl, inr}
-use mathlib.Core.List.{List, [], _∷_}
+use mathlib.Core.List.{List}
 use native.Mathlib.Omega.{arith}
 use lib.Dec.{T}
 use lib.ListN.{length}
@@ -16,7 +16,7 @@ use Rattle.rdfs.specs.Words.{facts}
 use Rattle.rdfs.specs.Clashes.{clashes, consistent?}
 use Rattle.rdfs.specs.Insertion.{insertion}
 use Rattle.rdfs.specs.Tickets.{Ticket, decoded, inserts, deletes, named, asked, unknownProperty}
-use Rattle.rdfs.specs.Register.{Answer, step, run, Done, Table}
+use Rattle.rdfs.specs.Register.{step, run, Table}
 use Rattle.rdfs.specs.Lookups.{lookupClash}
 use Rattle.rdfs.specs.Orders.{SameTickets, InOrder, AllInsertions, AllAccepted}
 use Rattle.rdfs.specs.Promises.{After, Formed, Judged, Possible, PossibleUpTo, unchanged}
@@ -26,7 +26,7 @@ use Rattle.rdfs.proofs.Decision.{check-sound, check-complete}
 use Rattle.rdfs.proofs.InsertionSmallest.{insertion-smallest, insertion-clash}
 use Rattle.rdfs.proofs.TicketTests.{asked-allowed}
 use Rattle.rdfs.proofs.AskedSeeds.{asked-seeds}
-use Rattle.rdfs.proofs.Steps.{Kept, refused-keeps}
+use Rattle.rdfs.proofs.Steps.{refused-keeps}
 use Rattle.rdfs.proofs.InsertionSteps.{accepted-smallest, refused-impossible, impossible-refused, eleven-impossible}
 use Rattle.rdfs.proofs.DeletionSteps.{deletion-accepted, accepted-largest, repeated-deletion}
 use Rattle.rdfs.proofs.Within.{repeated-insertion}

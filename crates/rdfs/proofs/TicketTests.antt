@@ -1,15 +1,14 @@
 -- What the tests of a ticket tell where they do not hold. Assumes nothing.
-use Prim.Native.Nat.{ℕ, zero, suc, _≤_, _<_}
+use Prim.Native.Nat.{ℕ, _≤_}
 use mathlib.Core.Path.{_≡_, refl, sym, subst}
-use mathlib.Core.Bool.{Bool, true, false, not, _&&_, _||_, cond}
+use mathlib.Core.Bool.{Bool, true, false, not, _&&_, _||_}
 use mathlib.Core.Logic.{_⊎_, inl, inr, ⊎-elim}
 use mathlib.Core.List.{List, [], _∷_}
-use native.Mathlib.Omega.{arith}
 use lib.Dec.{T, eqb, ltb, not-T, nltb→le}
 use Rattle.rdfs.specs.Numbers.{ticketKinds}
 use Rattle.rdfs.specs.Lists.{_∈_, member}
 use Rattle.rdfs.specs.Facts.{Fact, cl, pr, ind, lit, csub, psub, dom, rng, ci, pi, has}
-use Rattle.rdfs.specs.Tickets.{Ticket, inserts, deletes, makesProperty, named, asked, badOperation, badKind, badIds, unusedNotZero, markMisplaced, aboveHighest, guarded, unknownProperty}
+use Rattle.rdfs.specs.Tickets.{Ticket, inserts, deletes, makesProperty, asked, badOperation, badKind, badIds, unusedNotZero, markMisplaced, aboveHighest, unknownProperty}
 use Rattle.rdfs.specs.Orders.{Uses}
 use Rattle.rdfs.proofs.Tests.{Tests, tests-and, tests-or, tests-not, tests-eq, tests-self, and-both, either-or, or-either}
 use Rattle.rdfs.proofs.Lists.{in-cons, in-one}

@@ -1,36 +1,32 @@
 -- An insertion that some consistent graph of the table's size can take is accepted and stays within that graph; so one whose facts are all
 -- there changes nothing. Assumes nothing.
-use Prim.Native.Nat.{ℕ, zero, suc, _≤_, _<_}
+use Prim.Native.Nat.{ℕ, _≤_}
 use mathlib.Core.Path.{_≡_, refl, sym, ap, subst, _∙_}
-use mathlib.Core.Bool.{Bool, _&&_}
-use mathlib.Core.Logic.{_⊎_, inl, inr, ⊎-elim}
-use mathlib.Core.List.{List, [], _∷_, map}
+use mathlib.Core.Logic.{inl, inr, ⊎-elim}
+use mathlib.Core.List.{List, map}
 use native.Mathlib.Omega.{arith}
-use native.Mathlib.Nat.{le-trans}
 use lib.Dec.{T, ltb→lt}
 use lib.ListN.{length}
 use Rattle.rdfs.specs.Numbers.{Numbers, Sound, ticketKinds}
 use Rattle.rdfs.specs.Lists.{_∈_, here, _⊆_}
-use Rattle.rdfs.specs.Facts.{Fact, pr, psub, pi, Graph, graph, _⊑_}
+use Rattle.rdfs.specs.Facts.{Fact, pr, psub, pi, graph}
 use Rattle.rdfs.specs.Consistency.{Consistent}
 use Rattle.rdfs.specs.Words.{word, filled, facts, words, padded}
 use Rattle.rdfs.specs.Clashes.{clashes}
-use Rattle.rdfs.specs.Insertion.{insertion}
-use Rattle.rdfs.specs.Tickets.{Ticket, decoded, inserts, asked, clashing}
-use Rattle.rdfs.specs.Register.{Answer, step, tooMany, Table}
+use Rattle.rdfs.specs.Tickets.{decoded, inserts, asked}
+use Rattle.rdfs.specs.Register.{Answer, step, Table}
 use Rattle.rdfs.specs.Orders.{Uses}
 use Rattle.rdfs.specs.Promises.{Formed, unchanged}
 use Rattle.rdfs.proofs.Tests.{and-both}
 use Rattle.rdfs.proofs.Sorted.{sort-ascending, sub-length}
-use Rattle.rdfs.proofs.Parts.{All, demands}
-use Rattle.rdfs.proofs.Allowed.{Allowed}
+use Rattle.rdfs.proofs.Parts.{demands}
 use Rattle.rdfs.proofs.Tables.{words-same, words-sub}
 use Rattle.rdfs.proofs.LaidOut.{laid-words, laid-again, laid-fits}
 use Rattle.rdfs.proofs.Counts.{besides-none}
 use Rattle.rdfs.proofs.InsertionSmallest.{insertion-in, insertion-keeps, insertion-clash}
 use Rattle.rdfs.proofs.Closure.{addAll-keeps}
-use Rattle.rdfs.proofs.TicketTests.{by-kind, ticketOf, known-kind, known-uses}
-use Rattle.rdfs.proofs.Refusals.{new, Passed, pass}
+use Rattle.rdfs.proofs.TicketTests.{ticketOf, known-kind, known-uses}
+use Rattle.rdfs.proofs.Refusals.{new, pass}
 use Rattle.rdfs.proofs.Steps.{table-sane, table-allowed, step-number, accepted-leaves}
 use Rattle.rdfs.proofs.InsertionSteps.{new-is, ask-allowed, accepted-smallest}
 

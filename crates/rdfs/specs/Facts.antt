@@ -1,5 +1,5 @@
 -- Facts, by kind and ids. Ids are numbers with no bound: the highest id and a word's base enter in `Words`.
-use Prim.Native.Nat.{ℕ, zero, suc}
+use Prim.Native.Nat.{ℕ}
 use mathlib.Core.Bool.{Bool, _&&_, cond}
 use mathlib.Core.List.{List, [], _∷_}
 use lib.Dec.{eqb}

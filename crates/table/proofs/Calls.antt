@@ -1,5 +1,5 @@
 -- What the public calls promise, case by case. Assumes nothing.
-use Prim.Native.Nat.{ℕ, _-_, _<_}
+use Prim.Native.Nat.{ℕ, _<_}
 use mathlib.Core.Path.{_≡_, refl, sym, ap, _∙_}
 use mathlib.Core.Bool.{Bool, true, false, not, _&&_, cond}
 use mathlib.Core.List.{List, [], _∷_}
@@ -8,10 +8,8 @@ use lib.Dec.{T}
 use lib.ListN.{length, set}
 use Rattle.rdfs.specs.Numbers.{product}
 use Rattle.rdfs.specs.Lists.{member}
-use Rattle.rdfs.specs.Words.{isFact, laidOut, filled, fresh}
+use Rattle.rdfs.specs.Words.{laidOut, filled, fresh}
 use Rattle.rdfs.specs.Register.{orElse, badSize}
-use Rattle.rdfs.proofs.Facts.{tests-member}
-use Rattle.rdfs.proofs.LaidOut.{laid-is-fact}
 use Rattle.table.specs.Parts.{wordOf}
 use Rattle.table.specs.Room.{clearedFrom}
 use Rattle.table.specs.Calls.{freshAnswer, freshWords, lookupAnswer, lookupPresent}
@@ -38,11 +36,6 @@ says-whether true laid there e = absurd (omega arith)
 says-whether false true there e = refl
 says-whether false false there e = absurd (omega arith)
 
-says-yes : (bad laid there : Bool) → T (says bad laid there) → T laid × T there
-says-yes true laid there t = absurd t
-says-yes false true there t = (tt, t)
-says-yes false false there t = absurd t
-
 module _ (t : List ℕ) where
   refusal-is : (bad laid : Bool) → badSize product t ≡ bad → laidOut product 1 t ≡ laid → lookupAnswer t ≡ refusal bad laid
   refusal-is bad laid p q = ap (λ b. refusal b (laidOut product 1 t)) p ∙ ap (refusal bad) q
@@ -66,15 +59,6 @@ module _ (t : List ℕ) where
 
     pub present-taken : lookupAnswer t ≡ 0 → lookupPresent t w ≡ member (filled t) w
     present-taken e = says-whether (badSize product t) (laidOut product 1 t) (member (filled t) w) e
-
-    -- Only a fact is there.
-    pub present-fact : T (lookupPresent t w) → T (isFact product w)
-    present-fact h =
-        let r = says-yes (badSize product t) (laidOut product 1 t) (member (filled t) w) h in
-        laid-is-fact product t (r .0) w (tests-member (filled t) w .sound (r .1))
-
-  pub present-zero : T (lookupPresent t 0) → ⊥
-  present-zero h = present-fact 0 h
 
   pub fresh-refused : badSize product t ≡ true → (1 ≡ freshAnswer t) × (t ≡ freshWords t)
   fresh-refused p = (sym (ap (λ b. orElse b 1 0) p), sym (ap (λ b. cond b t (fresh product (length t))) p))

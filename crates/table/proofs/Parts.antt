@@ -7,7 +7,7 @@ use native.Mathlib.Nat.{div-add-mod', mod-lt}
 use lib.Dec.{eqb, lit≤, lit<}
 use Rattle.rdfs.specs.Numbers.{Numbers, product}
 use Rattle.rdfs.specs.Facts.{Fact, cl, pr, ind, lit, csub, psub, dom, rng, ci, pi, kind, first, second, third, made}
-use Rattle.rdfs.specs.Words.{word, fact, allowed, isFact}
+use Rattle.rdfs.specs.Words.{word, allowed, isFact}
 use Rattle.rdfs.proofs.Tests.{Tests, tests-and, tests-eq, tests-as}
 use Rattle.rdfs.proofs.Digits.{digits, Below}
 use Rattle.rdfs.proofs.Allowed.{tests-allowed}

@@ -2,7 +2,7 @@
 use Prim.Native.Nat.{ℕ, _+_, _*_, _/_, _%_, _≤_, _<_}
 use mathlib.Core.Path.{_≡_}
 use mathlib.Core.List.{List, [], _∷_, map}
-use Rattle.rdfs.specs.Numbers.{Numbers, product}
+use Rattle.rdfs.specs.Numbers.{product}
 use Rattle.rdfs.specs.Facts.{cl, pr, ind, lit, csub, psub, dom, rng, ci, pi, kind}
 
 abbrev pub kindOf : ℕ → ℕ

@@ -3,19 +3,19 @@
 use Prim.Native.Nat.{ℕ}
 use mathlib.Core.Path.{_≡_, sym, ap, subst, _∙_}
 use mathlib.Core.Bool.{Bool, true, false}
-use mathlib.Core.Logic.{_⊎_, inl, inr, ⊎-elim}
+use mathlib.Core.Logic.{inl, inr, ⊎-elim}
 use mathlib.Core.List.{List, [], _∷_}
 use lib.Dec.{T}
 use lib.ListN.{length}
-use Rattle.rdfs.specs.Numbers.{Numbers, product}
+use Rattle.rdfs.specs.Numbers.{product}
 use Rattle.rdfs.specs.Lists.{_∈_, _⊆_}
-use Rattle.rdfs.specs.Facts.{Fact, graph, _⊑_}
+use Rattle.rdfs.specs.Facts.{graph, _⊑_}
 use Rattle.rdfs.specs.Consistency.{Smallest, Largest, keeps}
 use Rattle.rdfs.specs.Words.{facts}
 use Rattle.rdfs.specs.Tickets as defs
-use Rattle.rdfs.specs.Register.{orElse, step, Answer, Table}
+use Rattle.rdfs.specs.Register.{orElse, step, Table}
 use Rattle.rdfs.specs.Promises.{After, Formed, Possible, PossibleUpTo, unchanged}
-use Rattle.rdfs.proofs.Refusals.{Passed, passed}
+use Rattle.rdfs.proofs.Refusals.{passed}
 use Rattle.rdfs.proofs.Steps.{step-number, refused-keeps}
 use Rattle.rdfs.proofs.TicketTests.{known-operation}
 use Rattle.rdfs.proofs.AfterEach.{after}

@@ -1,5 +1,4 @@
 -- `marks::last_of` meets its contract: the third id where the kind is that of values, else the second. Assumes nothing.
-use mathlib.Core.Path.{_∙_}
 use borrow.Author.Needs.{needs}
 use borrow.Author.Tests.{eq-eqb, ne-eqb}
 use Rattle.consistency.proofs.marks.last_of.Statement.{statement}
