@@ -43,7 +43,7 @@ figure =
 abbrev rangeOfObject : List ℕ
 rangeOfObject = 1 ∷ 2 ∷ 3 ∷ 0 ∷ 2 ∷ 1 ∷ 10 ∷ 4 ∷ 5 ∷ 3 ∷ []
 
--- A sub-property: the domain link and the range link both go in.
+-- A subproperty: the domain link and the range link both go in.
 abbrev bothLinks : List ℕ
 bothLinks =
     1 ∷ 2 ∷ 2 ∷ 4 ∷ 6 ∷
@@ -88,7 +88,7 @@ single =
     (2 ∷ 9 ∷ 22 ∷ 3 ∷ 0 ∷ []) ∷  -- a member leaves a class and the class below, and the value by that
     (2 ∷ 9 ∷ 22 ∷ 2 ∷ 0 ∷ []) ∷  -- a member leaves a domain, and its values go
     (2 ∷ 9 ∷ 23 ∷ 6 ∷ 0 ∷ []) ∷  -- a member leaves a range
-    (2 ∷ 10 ∷ 22 ∷ 23 ∷ 10 ∷ []) ∷  -- a value, and that of the sub-property
+    (2 ∷ 10 ∷ 22 ∷ 23 ∷ 10 ∷ []) ∷  -- a value, and that of the subproperty
     (1 ∷ 9 ∷ 22 ∷ 3 ∷ 0 ∷ []) ∷  -- a repeat on the full table
     (1 ∷ 9 ∷ 4 ∷ 4 ∷ 0 ∷ []) ∷  -- a clash on the full table
     (1 ∷ 1 ∷ 9 ∷ 0 ∷ 0 ∷ []) ∷  -- two facts more on the full table
