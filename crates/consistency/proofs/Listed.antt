@@ -26,8 +26,3 @@ ascending-rises (x ∷ l) a zero (suc j) h b = a .0 (at l j) (at-in l j (omega a
 ascending-rises (x ∷ l) a (suc i) (suc j) h b = ascending-rises l (a .1) i j (omega arith) (omega arith)
 ascending-rises (x ∷ l) a zero zero h b = absurd (omega arith)
 ascending-rises (x ∷ l) a (suc i) zero h b = absurd (omega arith)
-
-pub rises-ascending : (l : List ℕ) → Rises l → Ascending l
-rises-ascending [] r = tt
-rises-ascending (x ∷ l) r =
-    ((λ y h. let (i, b, e) = in-has h in subst (λ z. x < z) e (r 0 (suc i) (omega arith) (omega arith))), rises-ascending l (λ i j h b. r (suc i) (suc j) (omega arith) (omega arith)))
