@@ -124,10 +124,9 @@ fn the_largest_part_holds_the_parts_that_further_deletions_leave() {
         let asked = random.pick(&[deletable(&graph), vec![class(9)]].concat());
         let mut part = graph.clone();
         for _ in 0..4 {
-            let Some(fact) = deletable(&part).get(random.below(20)).copied() else {
-                continue;
-            };
-            part = largest(&part, fact).unwrap();
+            if let Some(fact) = deletable(&part).get(random.below(20)) {
+                part = largest(&part, *fact).unwrap();
+            }
         }
         let part = largest(&part, asked).unwrap();
         let keeps_all = graph.facts().all(|f| part.has(f) || !is_kept(asked, f));

@@ -154,11 +154,13 @@ fn an_insertion_is_minimal() {
     let mut tried = 0;
     while tried < rounds(400) {
         let graph = graphs::grown(&mut random, &FEW, 20, 40);
-        let Ok(Asked::Insert(facts)) = asked_by(&ticket(&mut random, &FEW)) else {
-            continue;
+        let facts = match asked_by(&ticket(&mut random, &FEW)) {
+            Ok(Asked::Insert(facts)) => facts,
+            _ => continue,
         };
-        let Ok(new) = changed(&graph, &Asked::Insert(facts.clone())) else {
-            continue;
+        let new = match changed(&graph, &Asked::Insert(facts.clone())) {
+            Ok(new) => new,
+            Err(_) => continue,
         };
         let added = new.count_beyond(&graph);
         if added > 0 && added <= 14 && new.len() <= 64 {

@@ -169,8 +169,8 @@ impl Plant {
         let unused = |sort: u8, x: &u8| !self.table.words().contains(&word(sort, *x, 0, 0));
         let individual = individuals.clone().find(|x| unused(INDIVIDUAL, x));
         let literal = literals.clone().find(|x| unused(LITERAL, x));
-        individual.is_some_and(|x| self.offer([1, MEMBER, x, class, 0]))
-            || literal.is_some_and(|x| self.offer([1, LITERAL, x, 0, 0]))
+        individual.map_or(false, |x| self.offer([1, MEMBER, x, class, 0]))
+            || literal.map_or(false, |x| self.offer([1, LITERAL, x, 0, 0]))
     }
 
     /// The individuals in a class.

@@ -36,7 +36,7 @@ pub fn measure(settings: &Settings, lists: &[(&str, Vec<u8>)]) -> Vec<Measured> 
 
 impl Measured {
     fn of(name: &str, list: &[u8], accepted: usize, readings: &[Readings]) -> Measured {
-        let tickets = list.len().div_ceil(TICKET_LENGTH);
+        let tickets = list.chunks(TICKET_LENGTH).len();
         let pieces = tickets.max(1) as f64;
         let share = |own: &Readings| own.iter().map(|time| time / pieces).collect();
         let shares: Vec<Readings> = readings.iter().map(share).collect();

@@ -24,13 +24,13 @@ pub struct Measured {
 
 pub fn is_installed() -> bool {
     let status = Command::new("sqlite3").arg("--version").stdout(Stdio::null()).stderr(Stdio::null()).status();
-    status.is_ok_and(|status| status.success())
+    matches!(status, Ok(status) if status.success())
 }
 
 /// The insertions of good form in a list, at most so many.
 pub fn insertions(list: &[u8], most: usize) -> Vec<Bytes> {
     let tickets = list.chunks_exact(5).map(|ticket| <Bytes>::try_from(ticket).expect("five bytes"));
-    let good = tickets.filter(|ticket| ticket_of(ticket).is_ok_and(|asked| asked.inserts));
+    let good = tickets.filter(|ticket| matches!(ticket_of(ticket), Ok(asked) if asked.inserts));
     good.take(most).collect()
 }
 

@@ -85,8 +85,9 @@ pub fn read(image: &[u8], table: &mut [u32]) -> u8 {
     if has_wrong_length(table) {
         return 1;
     }
-    let Some(graph) = facts_in(image) else {
-        return 12;
+    let graph = match facts_in(image) {
+        Some(graph) => graph,
+        None => return 12,
     };
     if graph.len() > table.len() {
         return 11;

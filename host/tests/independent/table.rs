@@ -67,7 +67,7 @@ pub fn check(table: &[u32]) -> u8 {
 /// The answer, and whether the word is among the table's facts.
 pub fn lookup(table: &[u32], word: u32) -> (u8, bool) {
     match facts_of(table) {
-        Ok(graph) => (0, Fact::of_word(word).is_some_and(|fact| graph.has(fact))),
+        Ok(graph) => (0, Fact::of_word(word).map_or(false, |fact| graph.has(fact))),
         Err(refusal) => (refusal, false),
     }
 }

@@ -52,9 +52,7 @@ fn old_and_new(table: &[u32], ticket: &[u8]) -> Result<(Graph, Graph), u8> {
 
 /// What the bytes of a ticket ask, or refusal 4, 5, 6 or 7.
 pub fn asked_by(ticket: &[u8]) -> Result<Asked, u8> {
-    let &[operation, kind, a, b, c] = ticket else {
-        return Err(4);
-    };
+    let [operation, kind, a, b, c] = <[u8; 5]>::try_from(ticket).map_err(|_| 4)?;
     if operation != INSERT && operation != DELETE {
         return Err(5);
     }

@@ -1,5 +1,7 @@
 //! Facts as words, with document 01's numbers.
 
+use std::iter;
+
 pub const CLASS: u8 = 1;
 pub const PROPERTY: u8 = 2;
 pub const INDIVIDUAL: u8 = 3;
@@ -41,9 +43,22 @@ const UNUSED: [u32; 11] = [!0, 0xffff, 0xffff, 0xffff, 0xffff, 0xff, 0xff, 0xff,
 /// The word is a fact: its kind is one, unused ids are 0, and the mark stands only as b of a range.
 pub fn is_fact(word: u32) -> bool {
     let [kind, a, b, c] = word.to_be_bytes();
-    let Some(unused) = UNUSED.get(usize::from(kind)) else {
-        return false;
+    let unused = match UNUSED.get(usize::from(kind)) {
+        Some(unused) => unused,
+        None => return false,
     };
     let has_mark = (a == MARK) | (c == MARK) | ((b == MARK) & (kind != RANGE));
     (kind != 0) & (word & unused == 0) & !has_mark
+}
+
+/// Ascending words cut into runs that differ in so many low bits only.
+pub fn runs_of(words: &[u32], low_bits: u32) -> impl Iterator<Item = &[u32]> {
+    let mut rest = words;
+    iter::from_fn(move || {
+        let first = rest.first()? >> low_bits;
+        let end = rest.iter().position(|word| word >> low_bits != first).unwrap_or(rest.len());
+        let (run, after) = rest.split_at(end);
+        rest = after;
+        Some(run)
+    })
 }

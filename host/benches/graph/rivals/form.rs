@@ -27,9 +27,7 @@ impl Ticket {
 
 /// The ticket of these bytes, or the first of the refusals 4 to 8.
 pub fn ticket_of(bytes: &[u8]) -> Result<Ticket, u8> {
-    let &[operation, kind, a, b, c] = bytes else {
-        return Err(4);
-    };
+    let [operation, kind, a, b, c] = <[u8; 5]>::try_from(bytes).map_err(|_| 4)?;
     if operation != INSERT && operation != DELETE {
         return Err(5);
     }

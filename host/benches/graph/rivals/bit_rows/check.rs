@@ -17,7 +17,7 @@ pub fn check(table: &[u32]) -> u8 {
         return 2;
     }
     let mut loaded = Loaded::empty();
-    for facts in words.chunk_by(|one, other| one >> 24 == other >> 24) {
+    for facts in runs_of(words, 24) {
         let ids = facts.iter().map(|fact| fact.to_be_bytes()).map(|[_, a, b, c]| [a, b, c]);
         loaded.put_all((facts[0] >> 24) as u8, ids);
     }

@@ -63,7 +63,7 @@ pub fn is_consistent(words: &[u32]) -> bool {
 
 /// Rules 18 and 19, or 20 and 21: what is over y is over x too, and nothing is over itself.
 fn is_order(links: &[u32], kind: u8) -> bool {
-    links.chunk_by(|one, other| a_of(*one) == a_of(*other)).all(|above| {
+    runs_of(links, 16).all(|above| {
         let x = a_of(above[0]);
         let carried = |y: u8| of_first(links, kind, y).iter().all(|link| has(above, word(kind, x, b_of(*link), 0)));
         above.iter().all(|link| b_of(*link) != x && carried(b_of(*link)))
@@ -156,7 +156,7 @@ impl Runs<'_> {
 
     /// Rule 26.
     fn members_go_up(&self) -> bool {
-        self.members.chunk_by(|one, other| a_of(*one) == a_of(*other)).all(|held| {
+        runs_of(self.members, 16).all(|held| {
             let x = a_of(held[0]);
             let carried = |link: &u32| has(held, word(MEMBER, x, b_of(*link), 0));
             held.iter().all(|fact| of_first(self.subclasses, SUBCLASS, b_of(*fact)).iter().all(carried))
@@ -165,7 +165,7 @@ impl Runs<'_> {
 
     /// Rule 27.
     fn values_go_up(&self) -> bool {
-        self.values.chunk_by(|one, other| one >> 8 == other >> 8).all(|held| {
+        runs_of(self.values, 8).all(|held| {
             let [_, x, y, _] = held[0].to_be_bytes();
             let carried = |link: &u32| has(held, word(VALUE, x, y, b_of(*link)));
             held.iter().all(|fact| of_first(self.subproperties, SUBPROPERTY, c_of(*fact)).iter().all(carried))
