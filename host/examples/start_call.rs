@@ -27,8 +27,8 @@ fn individuals_at(graph: &Graph, port: u8) -> Vec<u8> {
 fn plant() -> Result<Graph, Refusal> {
     let mut graph = Graph::fresh();
     let tickets = [
-        Ticket::insert_property(CONNECTED_TO, MACHINE, Range::Class(PORT)),
-        Ticket::insert_property(DRIVEN_BY, MACHINE, Range::Class(PORT)),
+        Ticket::insert_property(CONNECTED_TO, MACHINE, Range::class(PORT)?),
+        Ticket::insert_property(DRIVEN_BY, MACHINE, Range::class(PORT)?),
         Ticket::insert_subproperty(DRIVEN_BY, CONNECTED_TO),
         Ticket::insert_value(PUMP, PORT_A, DRIVEN_BY),
         Ticket::insert_value(VALVE, PORT_A, CONNECTED_TO),

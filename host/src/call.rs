@@ -39,9 +39,10 @@ pub struct Applied {
 /// ```
 pub fn apply_ticket(image: &[u8], ticket: &[u8], output: &mut [u8]) -> Result<Applied, Refusal> {
     let [number, added, removed, length] = parts_of(call_raw(image, ticket, output));
-    match Refusal::of_number(number) {
-        Some(refusal) => Err(refusal),
-        None => Ok(Applied { change: Change { added, removed }, length: usize::from(length) }),
+    match Refusal::try_from(number) {
+        Ok(refusal) => Err(refusal),
+        Err(0) => Ok(Applied { change: Change { added, removed }, length: usize::from(length) }),
+        Err(other) => unreachable!("the host call answers 0 to 14, not {other}"),
     }
 }
 

@@ -1,6 +1,8 @@
 //! Facts and their kinds. A class, property, individual or literal is named by its id, a byte; 0 is rdfs:Resource, and 1 is
 //! the mark Literal, which names none of them.
 
+use crate::Refusal;
+
 /// The id of rdfs:Resource, the class of everything.
 pub const RESOURCE: u8 = 0;
 
@@ -54,7 +56,7 @@ impl Kind {
     }
 
     /// How many ids a fact of the kind has, which is its length in an image.
-    pub fn width(self) -> usize {
+    pub const fn width(self) -> usize {
         match self {
             Kind::Class | Kind::Property | Kind::Individual | Kind::Literal => 1,
             Kind::Value => 3,
@@ -63,34 +65,74 @@ impl Kind {
     }
 }
 
-/// What the values of a property are.
+/// What the values of a property are. In a word, a ticket or an image it is one id, the mark for literals, so no class of
+/// a range has id 1.
+///
+/// ```
+/// use vimelosa_host::{Fact, Graph, Range, Refusal, Ticket};
+/// let (machine, port, connected_to, serial_number) = (2, 3, 10, 11);
+/// let mut graph = Graph::fresh();
+/// graph.apply(Ticket::insert_property(connected_to, machine, Range::class(port)?))?;
+/// graph.apply(Ticket::insert_property(serial_number, machine, Range::Literal))?;
+/// assert!(graph.has(Fact::Range { property: connected_to, range: Range::class(port)? }));
+/// assert!(graph.has(Fact::Range { property: serial_number, range: Range::Literal }));
+///
+/// assert_eq!(Range::class(1), Err(Refusal::Bytes));
+/// # Ok::<(), Refusal>(())
+/// ```
 #[derive(Clone, Copy, PartialEq, Eq, PartialOrd, Ord, Debug)]
 pub enum Range {
     /// Literals.
     Literal,
-    /// Members of a class.
-    Class(u8),
+    /// Members of a class. Outside this crate [`Range::class`] alone makes it, so that the class is never the mark; it is
+    /// matched as `Range::Class { class, .. }`.
+    #[non_exhaustive]
+    Class {
+        /// The class, whose id is not 1.
+        class: u8,
+    },
 }
 
 impl Range {
-    pub(crate) fn of_id(id: u8) -> Range {
-        match id {
-            MARK => Range::Literal,
-            class => Range::Class(class),
+    /// The members of a class. Id 1 is refused with 7 ([`Refusal::Bytes`]), as in a ticket: the mark is no class.
+    ///
+    /// ```
+    /// use vimelosa_host::{Range, Refusal};
+    /// assert!(matches!(Range::class(3), Ok(Range::Class { class: 3, .. })));
+    /// assert_eq!(Range::class(1), Err(Refusal::Bytes));
+    /// ```
+    ///
+    /// The variant itself cannot be written:
+    ///
+    /// ```compile_fail
+    /// let range = vimelosa_host::Range::Class { class: 1 };
+    /// ```
+    pub fn class(class: u8) -> Result<Range, Refusal> {
+        match Range::of_id(class) {
+            Range::Literal => Err(Refusal::Bytes),
+            range => Ok(range),
         }
     }
 
+    /// The range of an id in a body.
+    pub(crate) fn of_id(id: u8) -> Range {
+        match id {
+            MARK => Range::Literal,
+            class => Range::Class { class },
+        }
+    }
+
+    /// The id in a word or a ticket.
     pub(crate) fn id(self) -> u8 {
         match self {
             Range::Literal => MARK,
-            Range::Class(class) => class,
+            Range::Class { class } => class,
         }
     }
 }
 
-/// One fact of a graph.
+/// One fact of a graph. Two facts are equal if their words are.
 #[derive(Clone, Copy, PartialEq, Eq, PartialOrd, Ord, Debug)]
-#[allow(missing_docs)]
 pub enum Fact {
     /// The id is a class.
     Class(u8),
@@ -101,17 +143,49 @@ pub enum Fact {
     /// The id is a literal.
     Literal(u8),
     /// The class is a subclass of the other.
-    Subclass { class: u8, superclass: u8 },
+    Subclass {
+        /// The lower class, a of CSub.
+        class: u8,
+        /// The class that it is under, b.
+        superclass: u8,
+    },
     /// The property is a subproperty of the other.
-    Subproperty { property: u8, superproperty: u8 },
+    Subproperty {
+        /// The lower property, a of PSub.
+        property: u8,
+        /// The property that it is under, b.
+        superproperty: u8,
+    },
     /// What has the property is a member of the class.
-    Domain { property: u8, class: u8 },
+    Domain {
+        /// The property, a of Dom.
+        property: u8,
+        /// Its domain, b.
+        class: u8,
+    },
     /// The values of the property are literals, or members of a class.
-    Range { property: u8, range: Range },
+    Range {
+        /// The property, a of Rng.
+        property: u8,
+        /// Its range, b.
+        range: Range,
+    },
     /// The individual is a member of the class.
-    Member { individual: u8, class: u8 },
+    Member {
+        /// The individual, a of CI.
+        individual: u8,
+        /// The class that it is in, b.
+        class: u8,
+    },
     /// The individual has the value for the property.
-    Value { individual: u8, value: u8, property: u8 },
+    Value {
+        /// The individual, a of PI.
+        individual: u8,
+        /// The value, an individual or a literal, b.
+        value: u8,
+        /// The property, c.
+        property: u8,
+    },
 }
 
 impl Fact {

@@ -15,6 +15,19 @@ extern "C" {
 
 /// The host call, with its number as it comes: the answer, the facts added, the facts removed and the length of the
 /// image written, 16 bits each, lowest first. On a refusal the output is as it was.
+///
+/// ```
+/// use vimelosa_host::{call_raw, Graph, Refusal};
+///
+/// let fresh = Graph::fresh();
+/// let mut output = [0; 66];
+/// let number = call_raw(fresh.image(), &[1, 1, 2, 0, 0], &mut output);
+/// assert_eq!([0, 16, 32, 48].map(|bits| number >> bits & 0xffff), [0, 2, 0, 66]);
+///
+/// let refused = call_raw(fresh.image(), &[1, 7, 2, 0, 0], &mut output);
+/// assert_eq!(refused, 6);
+/// assert_eq!(Refusal::try_from(refused as u16), Ok(Refusal::Kind));
+/// ```
 pub fn call_raw(image: &[u8], ticket: &[u8], output: &mut [u8]) -> u64 {
     // SAFETY: each pointer goes with the length of its slice, and the slices outlive the call. The library keeps no
     // pointer and writes only within `output`, which overlaps neither other slice since it is lent as `&mut`. The

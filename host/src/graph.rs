@@ -7,11 +7,29 @@ use crate::{Refusal, Ticket};
 /// A graph has at most so many facts.
 pub const MOST_FACTS: usize = 2048;
 
-/// Edition, number of entries, and six bytes for each kind.
-const CONTENTS_LENGTH: usize = 62;
+/// The edition of the image's form, its first byte.
+const EDITION: u8 = 1;
 
-/// No graph's image is longer.
-pub const LONGEST_IMAGE: usize = CONTENTS_LENGTH + 3 * MOST_FACTS;
+/// The header: the edition and the number of entries, a byte each.
+const HEADER: usize = 2;
+
+/// A start or a count in the contents: 16 bits, low byte first.
+const FIELD: usize = 2;
+
+/// Where an entry has its start: after the kind and the bytes per fact, a byte each.
+const START: usize = 2;
+
+/// Where an entry has its count.
+const COUNT: usize = START + FIELD;
+
+/// An entry of the contents; there is one for each kind.
+const ENTRY: usize = COUNT + FIELD;
+
+/// The header and the entries; the bodies follow.
+const CONTENTS: usize = HEADER + ENTRY * Kind::ALL.len();
+
+/// No graph's image is longer: the facts with the most ids are the values.
+pub const LONGEST_IMAGE: usize = CONTENTS + Kind::Value.width() * MOST_FACTS;
 
 /// A consistent graph. Its image is what a backup keeps; two graphs are equal if their images are.
 #[derive(Clone, PartialEq, Eq, Debug)]
@@ -28,12 +46,14 @@ impl Graph {
     /// assert_eq!(graph.all_facts().collect::<Vec<_>>(), [Fact::Class(0)]);
     /// ```
     pub fn fresh() -> Graph {
-        let mut image = vec![1, Kind::ALL.len() as u8];
+        let mut image = vec![EDITION, Kind::ALL.len() as u8];
+        let mut start = CONTENTS as u16;
         for kind in Kind::ALL {
-            let is_first = kind == Kind::Class;
-            let start = CONTENTS_LENGTH as u8 + u8::from(!is_first);
-            let count = u8::from(is_first);
-            image.extend([kind.number(), kind.width() as u8, start, 0, count, 0]);
+            let count = u16::from(kind == Kind::Class);
+            image.extend([kind.number(), kind.width() as u8]);
+            image.extend(start.to_le_bytes());
+            image.extend(count.to_le_bytes());
+            start += count * kind.width() as u16;
         }
         image.push(RESOURCE);
         Graph { image }
@@ -85,9 +105,9 @@ impl Graph {
     /// # Ok::<(), Refusal>(())
     /// ```
     pub fn body(&self, kind: Kind) -> &[u8] {
-        let entry = 2 + 6 * (usize::from(kind.number()) - 1);
+        let entry = HEADER + ENTRY * (usize::from(kind.number()) - 1);
         let number = |at: usize| usize::from(u16::from_le_bytes([self.image[at], self.image[at + 1]]));
-        let (start, count) = (number(entry + 2), number(entry + 4));
+        let (start, count) = (number(entry + START), number(entry + COUNT));
         &self.image[start..start + count * kind.width()]
     }
 
@@ -107,17 +127,45 @@ impl Graph {
     }
 
     /// All facts, in the order of their words.
+    ///
+    /// ```
+    /// use vimelosa_host::{Fact, Graph, Refusal, Ticket};
+    /// let mut graph = Graph::fresh();
+    /// graph.apply(Ticket::insert_class(2))?;
+    /// let facts: Vec<Fact> = graph.all_facts().collect();
+    /// assert_eq!(facts, [Fact::Class(0), Fact::Class(2), Fact::Subclass { class: 2, superclass: 0 }]);
+    /// # Ok::<(), Refusal>(())
+    /// ```
     pub fn all_facts(&self) -> impl Iterator<Item = Fact> + '_ {
         Kind::ALL.into_iter().flat_map(|kind| self.facts(kind))
     }
 
     /// How many facts the graph has; at least one, since rdfs:Resource is always a class.
+    ///
+    /// ```
+    /// use vimelosa_host::{Graph, Refusal, Ticket};
+    /// let mut graph = Graph::fresh();
+    /// assert_eq!(graph.count_facts(), 1);
+    /// graph.apply(Ticket::insert_member(4, 3))?;
+    /// assert_eq!(graph.count_facts(), graph.all_facts().count());
+    /// assert_eq!(graph.count_facts(), 6);
+    /// # Ok::<(), Refusal>(())
+    /// ```
     pub fn count_facts(&self) -> usize {
         let count = |kind: Kind| self.body(kind).len() / kind.width();
         Kind::ALL.into_iter().map(count).sum()
     }
 
     /// Whether the graph has a fact.
+    ///
+    /// ```
+    /// use vimelosa_host::{Fact, Graph, Refusal, Ticket};
+    /// let mut graph = Graph::fresh();
+    /// graph.apply(Ticket::insert_member(4, 3))?;
+    /// assert!(graph.has(Fact::Individual(4)));
+    /// assert!(!graph.has(Fact::Class(4)));
+    /// # Ok::<(), Refusal>(())
+    /// ```
     pub fn has(&self, fact: Fact) -> bool {
         self.facts(fact.kind()).any(|other| other == fact)
     }

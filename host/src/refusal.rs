@@ -3,37 +3,38 @@
 use std::error::Error;
 use std::fmt;
 
-/// Why a call refused. A refusal leaves all lent memory as it was.
+/// Why a call refused, each with document 01's number and words. A refusal leaves all lent memory as it was.
 #[derive(Clone, Copy, PartialEq, Eq, Debug)]
 #[repr(u16)]
 pub enum Refusal {
-    /// The table has no words or more than 2,048.
+    /// 1: table of no words or above 2,048.
     TableLength = 1,
-    /// The table is not facts ascending, then zeros.
+    /// 2: table not laid out: the facts ascending, none twice, then zeros to the end.
     TableLayout = 2,
-    /// The table or the image holds a graph that breaks a rule.
+    /// 3: table not consistent; in reading, the image's graph.
     NotConsistent = 3,
-    /// The ticket is not five bytes long.
+    /// 4: a ticket's length not 5.
     TicketLength = 4,
-    /// The ticket's first byte is neither insert nor delete.
+    /// 5: operation, which is neither 1 (insert) nor 2 (delete).
     Operation = 5,
-    /// The ticket's kind is none that a ticket can have.
+    /// 6: kind, which is not 1 to 10, or is 7 or 8.
     Kind = 6,
-    /// An unused byte is not 0, or the mark Literal stands where no range does.
+    /// 7: an unused byte not 0, or id 1 anywhere but as c of an insertion of kind 2. [`Range::class`](crate::Range::class)
+    /// answers it too, for id 1.
     Bytes = 7,
-    /// A ticket that deletes Resource, or a link or a membership to it.
+    /// 8: deletion of Cl(0), or of CSub or CI with b = 0, present or not.
     NeverDeleted = 8,
-    /// The ticket uses a property that the graph does not have.
+    /// 9: inserting PSub with a or b not a property of the table, or PI with c not one.
     UnknownProperty = 9,
-    /// No consistent graph holds the present one and what is asked.
+    /// 10: inserting where no consistent graph holds table and asked facts.
     Clash = 10,
-    /// The graph would have more facts than the table has words.
+    /// 11: the new graph (in reading, the image's) has more facts than the table has words.
     Full = 11,
-    /// The image is malformed.
+    /// 12: image malformed.
     MalformedImage = 12,
-    /// The output is shorter than the image.
+    /// 13: output shorter than the image.
     OutputShort = 13,
-    /// There are fewer answer bytes than tickets.
+    /// 14: fewer answer bytes than tickets.
     AnswersShort = 14,
 }
 
@@ -66,15 +67,6 @@ impl Refusal {
         self as u16
     }
 
-    /// The refusal of an answer's number; none for 0, which is no refusal.
-    ///
-    /// # Panics
-    /// On a number above 14, which no call answers.
-    pub fn of_number(number: u16) -> Option<Refusal> {
-        let place = usize::from(number).checked_sub(1)?;
-        Some(Refusal::ALL[place])
-    }
-
     /// What is wrong, in a sentence for the one who caused it.
     pub fn sentence(self) -> &'static str {
         match self {
@@ -93,6 +85,23 @@ impl Refusal {
             Refusal::OutputShort => "The output is too short for the image.",
             Refusal::AnswersShort => "There are fewer answer bytes than tickets.",
         }
+    }
+}
+
+/// The refusal of an answer's number, or the number itself where it is none: 0, and those above 14, which no call answers.
+///
+/// ```
+/// use vimelosa_host::Refusal;
+/// assert_eq!(Refusal::try_from(10), Ok(Refusal::Clash));
+/// assert_eq!(Refusal::try_from(0), Err(0));
+/// assert_eq!(Refusal::try_from(15), Err(15));
+/// ```
+impl TryFrom<u16> for Refusal {
+    type Error = u16;
+
+    fn try_from(number: u16) -> Result<Refusal, u16> {
+        let numbered = Refusal::ALL.into_iter().find(|refusal| refusal.number() == number);
+        numbered.ok_or(number)
     }
 }
 

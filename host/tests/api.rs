@@ -6,10 +6,11 @@ mod vector_files;
 
 use generator::tickets::{ticket, ALL_IDS};
 use generator::{rounds, Random};
+use independent::fact::value;
 use independent::image::{facts_in, image_of};
 use independent::table::fresh_graph;
 use vector_files::{database, paper_cases, suite_cases};
-use vimelosa_host::{Change, Graph, Kind, Refusal, Ticket};
+use vimelosa_host::{Change, Fact, Graph, Kind, Range, Refusal, Ticket, LONGEST_IMAGE, MOST_FACTS};
 
 fn ticket_of(bytes: &[u8]) -> Ticket {
     Ticket::of_bytes(bytes.try_into().expect("five bytes"))
@@ -32,6 +33,14 @@ fn words(graph: &Graph) -> Vec<u32> {
 fn a_fresh_graph_is_the_image_of_a_fresh_table() {
     assert_eq!(Graph::fresh().image(), image_of(&fresh_graph()).unwrap());
     assert_eq!(Graph::default().count_facts(), 1);
+}
+
+#[test]
+fn the_longest_image_has_2048_values() {
+    let values = (2..=255).flat_map(|x| (2..=255).map(move |y| value(x, y, 2)));
+    let graph = independent::graph::Graph::of(values.take(MOST_FACTS));
+    assert_eq!(image_of(&graph).unwrap().len(), LONGEST_IMAGE);
+    assert_eq!(LONGEST_IMAGE, 62 + 3 * 2048);
 }
 
 #[test]
@@ -86,16 +95,76 @@ fn facts_of_a_graph_are_those_of_its_image() {
 fn refusals_have_the_numbers_1_to_14_and_a_sentence_each() {
     for (number, refusal) in (1..).zip(Refusal::ALL) {
         assert_eq!(refusal.number(), number);
-        assert_eq!(Refusal::of_number(number), Some(refusal));
+        assert_eq!(Refusal::try_from(number), Ok(refusal));
         assert!(refusal.sentence().ends_with('.'));
         assert_eq!(refusal.to_string(), format!("refusal {number}: {}", refusal.sentence()));
     }
-    assert_eq!(Refusal::of_number(0), None);
+    for number in (0..=u16::MAX).filter(|number| !(1..=14).contains(number)) {
+        assert_eq!(Refusal::try_from(number), Err(number));
+    }
 }
 
 #[test]
 fn kinds_have_the_numbers_1_to_10() {
     for (number, kind) in (1..).zip(Kind::ALL) {
         assert_eq!(kind.number(), number);
+    }
+}
+
+/// Each id but 1 is a class of a range, and 1 is none: word, ticket and graph tell all ranges apart.
+#[test]
+fn ranges_are_told_apart_by_their_ids() {
+    assert_eq!(Range::class(1), Err(Refusal::Bytes));
+    let classes = (0..=255).filter(|id| *id != 1).map(|id| (id, Range::class(id).unwrap()));
+    let ranges: Vec<(u8, Range)> = classes.chain([(1, Range::Literal)]).collect();
+    for (id, range) in &ranges {
+        let asked = Ticket::insert_property(20, 0, *range);
+        assert_eq!(asked.bytes(), [1, 2, 20, 0, *id]);
+        let fact = |range: Range| Fact::Range { property: 20, range };
+        assert_eq!(fact(*range).word(), u32::from_be_bytes([8, 20, *id, 0]));
+        let mut graph = Graph::fresh();
+        if *id == 20 {
+            assert_eq!(graph.apply(asked), Err(Refusal::Clash));
+            continue;
+        }
+        graph.apply(asked).unwrap();
+        let held: Vec<u8> = ranges.iter().filter(|(_, other)| graph.has(fact(*other))).map(|(id, _)| *id).collect();
+        assert_eq!(held, [*id]);
+    }
+}
+
+#[test]
+fn tickets_that_name_something_by_id_1_are_refused() {
+    let tickets = [
+        Ticket::insert_class(1),
+        Ticket::insert_property(1, 2, Range::Literal),
+        Ticket::insert_property(5, 1, Range::Literal),
+        Ticket::insert_individual(1),
+        Ticket::insert_literal(1),
+        Ticket::insert_subclass(1, 2),
+        Ticket::insert_subclass(2, 1),
+        Ticket::insert_subproperty(1, 5),
+        Ticket::insert_subproperty(5, 1),
+        Ticket::insert_member(1, 2),
+        Ticket::insert_member(4, 1),
+        Ticket::insert_value(1, 4, 5),
+        Ticket::insert_value(4, 1, 5),
+        Ticket::insert_value(4, 6, 1),
+        Ticket::delete_class(1),
+        Ticket::delete_property(1),
+        Ticket::delete_individual(1),
+        Ticket::delete_literal(1),
+        Ticket::delete_subclass(1, 2),
+        Ticket::delete_subclass(2, 1),
+        Ticket::delete_subproperty(1, 5),
+        Ticket::delete_subproperty(5, 1),
+        Ticket::delete_member(1, 2),
+        Ticket::delete_member(4, 1),
+        Ticket::delete_value(1, 4, 5),
+        Ticket::delete_value(4, 1, 5),
+        Ticket::delete_value(4, 6, 1),
+    ];
+    for ticket in tickets {
+        assert_eq!(Graph::fresh().apply(ticket), Err(Refusal::Bytes), "{ticket:?}");
     }
 }

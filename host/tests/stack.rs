@@ -3,7 +3,7 @@
 //! link, then a chain above it, where each step goes to the nearest id first.
 
 use std::thread;
-use vimelosa_host::{call_raw, Graph, Range, Ticket, LONGEST_IMAGE};
+use vimelosa_host::{call_raw, Graph, Range, Ticket, LONGEST_IMAGE, RESOURCE};
 
 /// The stack that a thread is to have. The deepest call known takes three quarters of it.
 const STACK: usize = 64 * 1024;
@@ -54,10 +54,15 @@ fn class_chains(chains: &Chains) -> Graph {
     graph
 }
 
+/// A property that has any individual as value.
+fn open_property(property: u8, domain: u8) -> Ticket {
+    Ticket::insert_property(property, domain, Range::class(RESOURCE).expect("Resource is a class"))
+}
+
 fn property_chains(chains: &Chains) -> Graph {
     let mut graph = Graph::fresh();
     let properties = chains.lower.iter().chain(&chains.upper);
-    run(&mut graph, properties.map(|property| Ticket::insert_property(*property, 0, Range::Class(0))));
+    run(&mut graph, properties.map(|property| open_property(*property, RESOURCE)));
     run(&mut graph, chains.links().into_iter().map(|(low, high)| Ticket::insert_subproperty(low, high)));
     run(&mut graph, [Ticket::insert_value(2, 3, chains.bottom())]);
     graph
@@ -110,7 +115,7 @@ fn class_chains_joined_by_a_property_link() {
     let mut graph = class_chains(&chains);
     let (p, q) = (150, 151);
     let member = Ticket::insert_member(200, chains.bottom());
-    let ends = [(p, low), (q, high)].map(|(property, domain)| Ticket::insert_property(property, domain, Range::Class(0)));
+    let ends = [(p, low), (q, high)].map(|(property, domain)| open_property(property, domain));
     run(&mut graph, [member].into_iter().chain(ends));
     call_on_small_stack(&graph, Ticket::insert_subproperty(p, q), FULL);
 }
