@@ -7,15 +7,15 @@ mod independent;
 #[path = "../benches/graph/rivals/mod.rs"]
 mod rivals;
 
-use generator::damage::{damaged, each_contents_byte_changed};
-use generator::tickets::{bad_ticket, list, short_ticket, ticket, Ids, ALL_IDS, FEW, MANY, PLENTY};
-use generator::{graphs, rounds, Random};
+use generator::graphs::image;
+use generator::tickets::{list, ticket, Ids, ALL_IDS, FEW, MANY, PLENTY};
+use generator::{calls, graphs, rounds, Random};
 use independent::graph::Graph;
-use independent::{host, image, programs, table};
+use independent::{host, programs, table};
 use rivals::bit_rows::BitRows;
-use rivals::contents::LONGEST_IMAGE;
 use rivals::sorted::Sorted;
 use rivals::{host_call, program, Rival};
+use vimelosa_host::LONGEST_IMAGE;
 
 /// The number that all three give, and the output that all three leave.
 fn same_call(image: &[u8], ticket: &[u8], output_length: usize) -> (u64, Vec<u8>) {
@@ -48,10 +48,6 @@ fn printed<R: Rival>(list: &[u8]) -> String {
     String::from_utf8(printed).expect("program one prints text")
 }
 
-fn image(graph: &Graph) -> Vec<u8> {
-    image::image_of(graph).expect("the graph has an image")
-}
-
 /// The graph's words in a table of `length`.
 fn words(graph: &Graph, length: usize) -> Vec<u32> {
     let mut words: Vec<u32> = graph.facts().map(|fact| fact.word()).collect();
@@ -59,48 +55,17 @@ fn words(graph: &Graph, length: usize) -> Vec<u32> {
     words
 }
 
-/// A ticket of any sort: most are good, some are bad, some have another length.
-fn any_ticket(random: &mut Random, ids: &Ids) -> Vec<u8> {
-    match random.below(12) {
-        0 => bad_ticket(random, ids).to_vec(),
-        1 => short_ticket(random),
-        _ => ticket(random, ids).to_vec(),
-    }
-}
-
 #[test]
 fn host_calls_on_growing_graphs() {
     let mut random = Random::for_test("rivals_on_growing_graphs");
-    for round in 0..rounds(100) {
-        let mut image = image(&table::fresh_graph());
-        for _ in 0..50 {
-            let ticket = any_ticket(&mut random, &ALL_IDS[round % 4]);
-            let around = random.below(image.len() + 8);
-            let length = if random.is_one_in(6) { around } else { LONGEST_IMAGE };
-            let (number, output) = same_call(&image, &ticket, length);
-            if number as u16 == 0 {
-                image = output[..(number >> 48) as usize].to_vec();
-            }
-        }
-    }
+    calls::on_growing_graphs(&mut random, rounds(100), same_call);
 }
 
 #[test]
 fn host_calls_on_damaged_images() {
     let mut random = Random::for_test("rivals_on_damaged_images");
-    for round in 0..rounds(200) {
-        let ids = &ALL_IDS[round % 4];
-        let whole = image(&graphs::grown(&mut random, ids, 30, 2048));
-        for _ in 0..6 {
-            same_call(&damaged(&mut random, &whole), &any_ticket(&mut random, ids), LONGEST_IMAGE);
-        }
-        let marked = image(&graphs::marked(&mut random, &FEW));
-        same_call(&marked, &any_ticket(&mut random, &FEW), LONGEST_IMAGE);
-    }
-    let whole = image(&graphs::grown(&mut random, &MANY, 40, 2048));
-    for changed in each_contents_byte_changed(&whole) {
-        same_call(&changed, &[1, 3, 77, 0, 0], LONGEST_IMAGE);
-    }
+    calls::on_damaged_images(&mut random, rounds(200), same_call);
+    calls::on_changed_contents(&mut random, same_call);
     for more in [0, 1] {
         same_call(&image(&graphs::overlong())[more..], &[1, 1, 2, 0, 0], LONGEST_IMAGE);
     }

@@ -2,10 +2,10 @@
 
 use crate::candidates::{HostCall, HOST_CALLS};
 use crate::clock::{interleaved, repeated, Readings, Run};
-use crate::rivals::contents::LONGEST_IMAGE;
 use crate::settings::Settings;
 use crate::subjects::{Call, Subject};
 use crate::tables::Line;
+use vimelosa_host::LONGEST_IMAGE;
 
 /// What was measured on one graph.
 pub struct Measured {

@@ -1,62 +1,27 @@
 //! The host call on images, tickets and outputs of every sort.
 
-use crate::generator::damage::{damaged, each_contents_byte_changed};
-use crate::generator::tickets::{bad_ticket, short_ticket, ticket, Ids, ALL_IDS, FEW, MANY, PLENTY};
-use crate::generator::{graphs, rounds, Random};
+use crate::generator::graphs::image;
+use crate::generator::tickets::{any_ticket, ticket, Ids, ALL_IDS, FEW, MANY, PLENTY};
+use crate::generator::{calls, graphs, rounds, Random};
 use crate::guarded::same_call;
-use crate::image;
 use vimelosa_host::LONGEST_IMAGE;
-
-/// A ticket of any sort: most are good, some are bad, some have another length.
-fn any_ticket(random: &mut Random, ids: &Ids) -> Vec<u8> {
-    match random.below(12) {
-        0 => bad_ticket(random, ids).to_vec(),
-        1 => short_ticket(random),
-        _ => ticket(random, ids).to_vec(),
-    }
-}
 
 #[test]
 fn on_growing_graphs() {
     let mut random = Random::for_test("host_call_on_growing_graphs");
-    for round in 0..rounds(250) {
-        let mut image = vimelosa_host::Graph::fresh().image().to_vec();
-        for _ in 0..50 {
-            let ticket = any_ticket(&mut random, &ALL_IDS[round % 4]);
-            let around = random.below(image.len() + 8);
-            let length = if random.is_one_in(6) { around } else { LONGEST_IMAGE };
-            let (number, output) = same_call(&image, &ticket, length);
-            if number as u16 == 0 {
-                image = output[..(number >> 48) as usize].to_vec();
-            }
-        }
-    }
+    calls::on_growing_graphs(&mut random, rounds(250), same_call);
 }
 
 #[test]
 fn on_damaged_images() {
     let mut random = Random::for_test("host_call_on_damaged_images");
-    for round in 0..rounds(500) {
-        let ids = &ALL_IDS[round % 4];
-        let whole = image(&graphs::grown(&mut random, ids, 30, 2048));
-        for _ in 0..6 {
-            let ticket = any_ticket(&mut random, ids);
-            same_call(&damaged(&mut random, &whole), &ticket, LONGEST_IMAGE);
-        }
-        let disturbed = image(&graphs::disturbed(&mut random, &FEW, 50));
-        same_call(&disturbed, &any_ticket(&mut random, &FEW), LONGEST_IMAGE);
-        let marked = image(&graphs::marked(&mut random, &FEW));
-        same_call(&marked, &any_ticket(&mut random, &FEW), LONGEST_IMAGE);
-    }
+    calls::on_damaged_images(&mut random, rounds(500), same_call);
 }
 
 #[test]
 fn on_changed_contents() {
     let mut random = Random::for_test("host_call_on_changed_contents");
-    let whole = image(&graphs::grown(&mut random, &MANY, 40, 2048));
-    for changed in each_contents_byte_changed(&whole) {
-        same_call(&changed, &[1, 3, 77, 0, 0], LONGEST_IMAGE);
-    }
+    calls::on_changed_contents(&mut random, same_call);
 }
 
 #[test]

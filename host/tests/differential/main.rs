@@ -12,10 +12,3 @@ mod program_one;
 mod program_two;
 #[path = "../vector_files/mod.rs"]
 mod vector_files;
-
-use independent::graph::Graph;
-
-/// The image of a graph that has one.
-fn image(graph: &Graph) -> Vec<u8> {
-    independent::image::image_of(graph).expect("the graph has an image")
-}

@@ -1,9 +1,9 @@
 //! Program two on images, whole and damaged.
 
 use crate::generator::damage::{damaged, each_contents_byte_changed};
+use crate::generator::graphs::image;
 use crate::generator::tickets::{ALL_IDS, FEW, MANY};
 use crate::generator::{graphs, rounds, Random};
-use crate::image;
 use crate::independent::programs::print_facts;
 use crate::process::Program;
 

@@ -4,6 +4,7 @@ use super::tickets::{ticket, Ids, MANY, PLENTY};
 use super::Random;
 use crate::independent::fact::*;
 use crate::independent::graph::Graph;
+use crate::independent::image::image_of;
 use crate::independent::insertion::smallest;
 use crate::independent::table::fresh_graph;
 use crate::independent::ticket::{asked_by, changed};
@@ -95,4 +96,9 @@ pub fn chain(length: u8) -> Graph {
 pub fn overlong() -> Graph {
     let ids = |last: u8| 2..=last;
     Graph::of(ids(24).flat_map(|a| ids(30).flat_map(move |b| ids(30).map(move |c| value(a, b, c)))))
+}
+
+/// The image of a graph that has one.
+pub fn image(graph: &Graph) -> Vec<u8> {
+    image_of(graph).expect("the graph has an image")
 }

@@ -3,6 +3,7 @@
 // Each test uses its own share of this module.
 #![allow(dead_code)]
 
+pub mod calls;
 pub mod damage;
 pub mod graphs;
 pub mod tickets;

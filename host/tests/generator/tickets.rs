@@ -116,6 +116,15 @@ pub fn short_ticket(random: &mut Random) -> Vec<u8> {
     (0..length).map(|_| random.byte() % 11).collect()
 }
 
+/// A ticket of any sort: most are good, some are bad, some have another length.
+pub fn any_ticket(random: &mut Random, ids: &Ids) -> Vec<u8> {
+    match random.below(12) {
+        0 => bad_ticket(random, ids).to_vec(),
+        1 => short_ticket(random),
+        _ => ticket(random, ids).to_vec(),
+    }
+}
+
 /// A list of so many tickets, one in twenty bad, with up to four bytes left over.
 pub fn list(random: &mut Random, ids: &Ids, count: usize) -> Vec<u8> {
     let mut bytes = Vec::new();

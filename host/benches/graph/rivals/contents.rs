@@ -1,14 +1,11 @@
 //! The contents of an image: how many facts of each kind its bodies hold.
 
-use super::fact::{width, MOST_WORDS};
+use super::fact::width;
 
 /// Bytes before the first body: edition, number of entries, and six for each kind.
 pub const CONTENTS_LENGTH: usize = 62;
 const EDITION: u8 = 1;
 const KINDS: u8 = 10;
-
-/// No table's image is longer.
-pub const LONGEST_IMAGE: usize = CONTENTS_LENGTH + 3 * MOST_WORDS;
 
 /// The facts of each kind, by kind; the place 0 is unused.
 pub type Counts = [usize; 11];

@@ -14,7 +14,7 @@ pub mod form;
 pub mod program;
 pub mod sorted;
 
-use contents::LONGEST_IMAGE;
+use vimelosa_host::LONGEST_IMAGE;
 
 /// The answer to a ticket: 0 or a refusal, the facts added, the facts removed.
 #[derive(Clone, Copy, PartialEq, Eq, Debug)]

@@ -5,6 +5,7 @@ use super::rows::*;
 use super::set::Set;
 use crate::rivals::contents::*;
 use crate::rivals::fact::*;
+use vimelosa_host::LONGEST_IMAGE;
 
 /// The rows of an image, or refusal 12 or 11.
 pub fn load(image: &[u8]) -> Result<Loaded, u8> {
