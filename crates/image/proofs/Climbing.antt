@@ -4,7 +4,6 @@ use mathlib.Core.Path.{_≡_, refl, sym, ap, _∙_}
 use mathlib.Core.Bool.{true, false}
 use mathlib.Core.List.{List, _∷_, _++_}
 use native.Mathlib.Omega.{arith}
-use native.Mathlib.Nat.{mul-le-mul-left}
 use lib.Dec.{lit<}
 use Rattle.rdfs.specs.Numbers.{product}
 use Rattle.rdfs.specs.Lists.{concatMap}
@@ -37,9 +36,6 @@ module _ (bytes : List ℕ) (k : ℕ) where
   }
 
   module _ {from count last i p top : ℕ} (c : Climb from count last i p top) where
-    pub climb-within : (n : ℕ) → i < count → from + factSize form k * count ≤ n → p + factSize form k ≤ n
-    climb-within n h l = omega (arith, c .place, l, mul-le-mul-left (factSize form k) h)
-
     abbrev left : List ℕ
     left = wordsFrom product form bytes k (count - (i + 1)) (p + factSize form k)
 

@@ -7,11 +7,12 @@ use lib.Dec.{lit≤}
 use lib.ListN.{length, getD, take, drop}
 use Rattle.rdfs.specs.Numbers.{arity}
 use Rattle.rdfs.specs.Lists.{concatMap}
-use Rattle.rdfs.specs.Facts.{Fact, cl, pr, ind, lit, csub, psub, dom, rng, ci, pi, kind, ids, first, second, third, made}
+use Rattle.rdfs.specs.Facts.{Fact, kind, ids, first, second, third, made}
 use Rattle.rdfs.specs.Words.{word}
 use Rattle.rdfs.proofs.Facts.{made-of}
-use Rattle.rdfs.proofs.Digits.{kind-below, Below}
+use Rattle.rdfs.proofs.Digits.{Below}
 use Rattle.rdfs.proofs.Theorems.{arity-is}
+use Rattle.table.proofs.Parts.{parts-shaped}
 use Rattle.image.specs.Form.{Form, Proper, factSize, inBytes}
 use Rattle.image.specs.Reading.{idAt}
 use Rattle.image.proofs.InBytes.{AllBytes, Under, under-take, numbersFrom, numbers-read, numbers-written, number-bound}
@@ -37,20 +38,8 @@ is-kind (suc (suc (suc (suc (suc (suc (suc (suc (suc zero))))))))) h l = record 
 is-kind (suc (suc (suc (suc (suc (suc (suc (suc (suc (suc zero)))))))))) h l = record { of-kind = λ a b c. refl; has-ids = λ a b c. refl; some = lit≤ tt; few = lit≤ tt }
 is-kind (suc (suc (suc (suc (suc (suc (suc (suc (suc (suc (suc k))))))))))) h l = absurd (omega arith)
 
-kind-from : (f : Fact) → 1 ≤ kind f
-kind-from (cl a) = lit≤ tt
-kind-from (pr a) = lit≤ tt
-kind-from (ind a) = lit≤ tt
-kind-from (lit a) = lit≤ tt
-kind-from (csub a b) = lit≤ tt
-kind-from (psub a b) = lit≤ tt
-kind-from (dom a b) = lit≤ tt
-kind-from (rng a b) = lit≤ tt
-kind-from (ci a b) = lit≤ tt
-kind-from (pi a b c) = lit≤ tt
-
 pub fact-kind : (f : Fact) → (1 ≤ kind f) × (kind f ≤ 10)
-fact-kind f = (kind-from f, omega (arith, kind-below f))
+fact-kind f = let s = parts-shaped f in (s .some, s .most)
 
 -- The ids that a kind has no use for do not matter.
 pub made-again : {k : ℕ} → IsKind k → (a b c : ℕ) → let l : List ℕ = take (arity k) (a ∷ b ∷ c ∷ []) in made k a b c ≡ made k (getD l 0 0) (getD l 1 0) (getD l 2 0)

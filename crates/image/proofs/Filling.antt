@@ -3,7 +3,6 @@ use Prim.Native.Nat.{ℕ, zero, suc, _+_, _*_, _-_, _≤_, _<_}
 use mathlib.Core.Path.{_≡_, refl, sym, ap, _∙_}
 use mathlib.Core.List.{List, [], _++_}
 use native.Mathlib.Omega.{arith}
-use native.Mathlib.Nat.{mul-le-mul-left}
 use native.Mathlib.Numerals.{add-one}
 use lib.ListN.{length, getD, set, drop, length-append, length-drop}
 use lib.Seq.{drop-at, drop-drop, paste, paste-zero, paste-suc, length-paste}
@@ -86,9 +85,6 @@ module _ (bytes : List ℕ) (k from count : ℕ) where
   module _ {t₀ : List ℕ} {place : ℕ} {t : List ℕ} {i p : ℕ} (s : Stored t₀ place t i p) (room : place + count ≤ length t₀) where
     pub stored-length : length t ≡ length t₀
     stored-length = ap length (s .so-far) ∙ length-paste t₀ place (wordsFrom product form bytes k count from) i (omega (arith, s .within)) (omega (arith, s .within, wordsFrom-length product form bytes k count from))
-
-    pub stored-within : (n : ℕ) → i < count → from + factSize form k * count ≤ n → p + factSize form k ≤ n
-    stored-within n h l = omega (arith, s .at, l, mul-le-mul-left (factSize form k) h)
 
     pub stored-more : i < count → (w : ℕ) → w ≡ wordAt product form bytes k p → (size : ℕ) → size ≡ factSize form k → Stored t₀ place (set t (place + i) w) (i + 1) (p + size)
     stored-more h w e size z =

@@ -1,7 +1,7 @@
 -- Whether there is a body to hand out, and where it lies. Assumes nothing.
 use Prim.Native.Nat.{ℕ, _+_, _*_, _≤_}
 use mathlib.Core.Path.{_≡_, refl, sym, ap, subst, _∙_}
-use mathlib.Core.Bool.{Bool, true, false, not, _||_, cond}
+use mathlib.Core.Bool.{Bool, true, false, not, _||_, cond, or-true, or-false}
 use mathlib.Core.List.{List}
 use lib.Dec.{T}
 use lib.ListN.{length}
@@ -18,14 +18,6 @@ use Rattle.image.specs.Parts.{IsPart}
 use Rattle.image.proofs.Grouped.{kinds-from}
 use Rattle.image.proofs.ImageAgain.{body-placed}
 use Rattle.image.proofs.Product.{well-contents}
-
-or-true : (b : Bool) → (b || true) ≡ true
-or-true true = refl
-or-true false = refl
-
-or-false : (b : Bool) → (b || false) ≡ b
-or-false true = refl
-or-false false = refl
 
 or-none : (a b : Bool) → (a || b) ≡ false → (a ≡ false) × (b ≡ false)
 or-none false false e = (refl, refl)

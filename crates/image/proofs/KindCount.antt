@@ -1,14 +1,13 @@
 -- How many words of a kind a table has, by the words below its first and below the next kind's. Assumes nothing.
-use Prim.Native.Nat.{ℕ, _+_, _-_, _≤_, _<_}
-use mathlib.Core.Path.{_≡_, refl, sym, ap, subst, _∙_}
+use Prim.Native.Nat.{ℕ, _+_, _-_, _≤_}
+use mathlib.Core.Path.{_≡_, refl, sym, ap, _∙_}
 use mathlib.Core.List.{List, [], _∷_}
 use native.Mathlib.Omega.{arith}
 use native.Mathlib.Decide.{decLt}
 use lib.Dec.{T, eqb}
-use lib.ListN.{length, getD, take}
-use lib.Seq.{getD-take}
+use lib.ListN.{length, take}
 use Rattle.rdfs.specs.Numbers.{product}
-use Rattle.rdfs.specs.Lists.{_∈_, here, there, Ascending}
+use Rattle.rdfs.specs.Lists.{_∈_, here, there}
 use Rattle.rdfs.specs.Words.{fact, isFact, filled}
 use Rattle.rdfs.proofs.Filters.{filter-split}
 use Rattle.rdfs.proofs.LaidOut.{laid-is-fact}
@@ -16,9 +15,10 @@ use Rattle.rdfs.proofs.Theorems.{product-sound}
 use Rattle.table.specs.Found.{below}
 use Rattle.table.specs.Parts.{wordOf}
 use Rattle.table.proofs.Below.{below-less, below-not, below-none}
-use Rattle.table.proofs.Filled.{at-in, counted-filled, counted-ascending, filled-within}
+use Rattle.table.proofs.Filled.{filled-within}
+use Rattle.table.proofs.Counted.{counted-first}
 use Rattle.image.specs.Image.{factKind, ofKind}
-use Rattle.image.specs.Writing.{Counted}
+use Rattle.image.specs.Writing.{Writable}
 use Rattle.image.proofs.FactsRead.{fact-kind}
 use Rattle.image.proofs.Grouped.{kind-more, kind-skip, word-within}
 
@@ -45,32 +45,22 @@ kind-between k (w ∷ l) h =
       ]
     ]
 
-module _ (t : List ℕ) (n : ℕ) (c : Counted t n) where
-  pub counted-ready : (n ≤ length t) × Ascending (take n t)
-  counted-ready = counted-ascending product t (c .laid) n (c .count)
-
-  -- The word at a place before n is a fact's.
-  pub counted-word : (i : ℕ) → i < n → getD t i 0 ≡ getD (filled t) i 0
-  counted-word i h = sym (getD-take n t i 0 h) ∙ ap (λ m. getD m i 0) (counted-filled product t (c .laid) n (c .count))
-
-  pub counted-fact : (i : ℕ) → i < n → T (isFact product (getD t i 0))
-  counted-fact i h = subst (λ w. T (isFact product w)) (sym (counted-word i h)) (laid-is-fact product t (c .laid) (getD (filled t) i 0) (at-in (filled t) i (omega (arith, h, c .count))))
-
+module _ (t : List ℕ) (n : ℕ) (c : Writable t n) where
   -- No word is below kind 1.
   pub kind-first : 0 ≡ below (take n t) (wordOf 1 0 0 0)
   kind-first =
-      let same : take n t ≡ filled t = counted-filled product t (c .laid) n (c .count) in
-      sym (ap (λ m. below m (wordOf 1 0 0 0)) same ∙ below-none (wordOf 1 0 0 0) (filled t) (λ w i. omega (arith, word-within product product-sound w (laid-is-fact product t (c .laid) w i) .0, fact-kind (fact (product .base) w) .0)))
+      let same : take n t ≡ filled t = counted-first (c .counted) in
+      sym (ap (λ m. below m (wordOf 1 0 0 0)) same ∙ below-none (wordOf 1 0 0 0) (filled t) (λ w i. omega (arith, word-within product product-sound w (laid-is-fact product t (c .counted .laid) w i) .0, fact-kind (fact (product .base) w) .0)))
 
   -- Two searches, for the first word of kind k and the first of the next.
   module _ (k from to : ℕ) (f : from ≡ below (take n t) (wordOf k 0 0 0)) (g : to ≡ below (take n t) (wordOf (k + 1) 0 0 0)) where
     found : to ≡ from + length (ofKind product k (filled t))
     found =
         let l : List ℕ = filled t in
-        let same : take n t ≡ l = counted-filled product t (c .laid) n (c .count) in
+        let same : take n t ≡ l = counted-first (c .counted) in
         let low : from ≡ below l (wordOf k 0 0 0) = f ∙ ap (λ m. below m (wordOf k 0 0 0)) same in
         let high : to ≡ below l (wordOf (k + 1) 0 0 0) = g ∙ ap (λ m. below m (wordOf (k + 1) 0 0 0)) same in
-        high ∙ (kind-between k l (laid-is-fact product t (c .laid)) ∙ ap (λ m. m + length (ofKind product k l)) (sym low))
+        high ∙ (kind-between k l (laid-is-fact product t (c .counted .laid)) ∙ ap (λ m. m + length (ofKind product k l)) (sym low))
 
     pub kind-order : from ≤ to
     kind-order = omega (arith, found)
@@ -78,4 +68,4 @@ module _ (t : List ℕ) (n : ℕ) (c : Counted t n) where
     pub kind-found : (to - from ≡ length (ofKind product k (filled t))) × (to - from ≤ product .most)
     kind-found =
         let exact : to - from ≡ length (ofKind product k (filled t)) = omega (arith, found) in
-        (exact, omega (arith, exact, filter-split (λ w. eqb (factKind product w) k) (filled t), filled-within product t (c .laid), c .few))
+        (exact, omega (arith, exact, filter-split (λ w. eqb (factKind product w) k) (filled t), filled-within product t (c .counted .laid), c .few))

@@ -14,12 +14,13 @@ use Rattle.rdfs.proofs.Theorems.{product-sound}
 use Rattle.table.specs.Found.{below}
 use Rattle.table.specs.Parts.{wordOf}
 use Rattle.table.proofs.Below.{below-less, below-not, first-within}
-use Rattle.table.proofs.Filled.{counted-filled, filled-within}
+use Rattle.table.proofs.Filled.{filled-within}
+use Rattle.table.proofs.Counted.{counted-first, counted-search}
 use Rattle.image.specs.Form.{form, factSize, largestFact, firstBody, kindsAfter, kinds}
 use Rattle.image.specs.Image.{factKind, ofKind, idBytes, bodyOf, bodies, imageOf}
 use Rattle.image.specs.Reading.{Facts}
 use Rattle.image.specs.Calls.{tableImage}
-use Rattle.image.specs.Writing.{Counted}
+use Rattle.image.specs.Writing.{Writable}
 use Rattle.image.proofs.FactsRead.{fact-kind}
 use Rattle.image.proofs.Places.{arity-one, arity-two}
 use Rattle.image.proofs.WordsRead.{idBytes-length}
@@ -28,7 +29,6 @@ use Rattle.image.proofs.ImageRead.{bodyOf-length, image-length}
 use Rattle.image.proofs.RoundTrip.{kinds-all, filled-facts}
 use Rattle.image.proofs.Linking.{kinds-more}
 use Rattle.image.proofs.Product.{proper}
-use Rattle.image.proofs.KindCount.{counted-ready}
 
 pub concat-append : (f : ℕ → List ℕ) (l m : List ℕ) → concatMap f (l ++ m) ≡ concatMap f l ++ concatMap f m
 concat-append f [] m = refl
@@ -62,9 +62,9 @@ ids-counted (w ∷ l) h =
       ]
     ]
 
-module _ (t : List ℕ) (n : ℕ) (c : Counted t n) where
+module _ (t : List ℕ) (n : ℕ) (c : Writable t n) where
   pub counted-facts : Facts product (filled t)
-  counted-facts = filled-facts product product-sound t (c .laid)
+  counted-facts = filled-facts product product-sound t (c .counted .laid)
 
   pub image-whole : length (tableImage t) ≡ firstBody form + length (concatMap (idBytes product form) (filled t))
   image-whole = image-length product form proper (filled t) ∙ ap (λ m. firstBody form + length m) (bodies-all (filled t) counted-facts)
@@ -72,20 +72,20 @@ module _ (t : List ℕ) (n : ℕ) (c : Counted t n) where
   -- Two searches, for the first word with two ids and the first with three.
   module _ (ones twos : ℕ) (f : ones ≡ below (take n t) (wordOf 5 0 0 0)) (g : twos ≡ below (take n t) (wordOf 10 0 0 0)) where
     pub ones-within : ones ≤ n
-    ones-within = omega (arith, f, first-within t n (wordOf 5 0 0 0) (counted-ready t n c .0) (counted-ready t n c .1))
+    ones-within = omega (arith, f, first-within t n (wordOf 5 0 0 0) (counted-search (c .counted) .0) (counted-search (c .counted) .1))
 
     pub twos-within : twos ≤ n
-    twos-within = omega (arith, g, first-within t n (wordOf 10 0 0 0) (counted-ready t n c .0) (counted-ready t n c .1))
+    twos-within = omega (arith, g, first-within t n (wordOf 10 0 0 0) (counted-search (c .counted) .0) (counted-search (c .counted) .1))
 
     pub image-counted : firstBody form + (n + (n - ones) + (n - twos)) ≡ length (tableImage t)
     image-counted =
-        let same : take n t ≡ filled t = counted-filled product t (c .laid) n (c .count) in
+        let same : take n t ≡ filled t = counted-first (c .counted) in
         let low : ones ≡ below (filled t) (wordOf 5 0 0 0) = f ∙ ap (λ m. below m (wordOf 5 0 0 0)) same in
         let high : twos ≡ below (filled t) (wordOf 10 0 0 0) = g ∙ ap (λ m. below m (wordOf 10 0 0 0)) same in
-        omega (arith, image-whole, ids-counted (filled t) (laid-is-fact product t (c .laid)), low, high, c .count, ones-within, twos-within)
+        omega (arith, image-whole, ids-counted (filled t) (laid-is-fact product t (c .counted .laid)), low, high, c .counted .size, ones-within, twos-within)
 
   pub image-small : length (tableImage t) ≤ firstBody form + largestFact form * product .most
-  image-small = omega (arith, image-whole, ids-counted (filled t) (laid-is-fact product t (c .laid)), filled-within product t (c .laid), c .few)
+  image-small = omega (arith, image-whole, ids-counted (filled t) (laid-is-fact product t (c .counted .laid)), filled-within product t (c .counted .laid), c .few)
 
 -- The bodies of the first `done` kinds end at `start`.
 pub record Measured (l : List ℕ) (done start : ℕ) : Type 0 where

@@ -1,18 +1,18 @@
--- A number and an id in the product's form, by the bytes of their places. Assumes nothing.
+-- A number and an id in the product's form, by the bytes of their places, and the place of a fact in a body. Assumes nothing.
 use Prim.Native.Nat.{ℕ, suc, _+_, _*_, _≤_, _<_}
 use mathlib.Core.Path.{_≡_, sym, ap, _∙_}
 use mathlib.Core.Bool.{Bool, true, false, cond}
 use mathlib.Core.List.{List, [], _∷_}
 use native.Mathlib.Omega.{arith}
+use native.Mathlib.Nat.{mul-le-mul-left}
 use native.Mathlib.Decide.{decLt}
 use lib.Dec.{eqb, leb, lit≤}
 use lib.ListN.{length, getD, take, drop, drop-of-length-le, List·getD-eq-default}
 use lib.Seq.{drop-cons}
 use borrow.Author.Tests.{ne-eqb, le-leb, lt-leb}
-use Rattle.rdfs.specs.Numbers.{arity}
-use Rattle.rdfs.specs.Numbers.{product}
+use Rattle.rdfs.specs.Numbers.{product, arity}
 use Rattle.table.specs.Parts.{wordOf}
-use Rattle.image.specs.Form.{form, fromBytes}
+use Rattle.image.specs.Form.{form, fromBytes, factSize}
 use Rattle.image.specs.Reading.{numberAt, idAt, wordAt}
 use Rattle.image.proofs.FactsRead.{IsKind, word-made}
 
@@ -59,3 +59,7 @@ module _ (bytes : List ℕ) (k p : ℕ) (h : IsKind k) where
     where
       of : ℕ → ℕ → ℕ → ℕ → ℕ
       of m x y z = let l : List ℕ = take m (x ∷ y ∷ z ∷ []) in wordOf k (getD l 0 0) (getD l 1 0) (getD l 2 0)
+
+-- The fact at place i of a body starts at p: it ends where the body ends, or before.
+pub fact-within : (k from count i p n : ℕ) → p ≡ from + factSize form k * i → i < count → from + factSize form k * count ≤ n → p + factSize form k ≤ n
+fact-within k from count i p n e h l = omega (arith, e, l, mul-le-mul-left (factSize form k) h)

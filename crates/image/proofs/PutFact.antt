@@ -10,7 +10,7 @@ use Rattle.rdfs.specs.Lists.{concatMap}
 use Rattle.rdfs.specs.Facts.{ids}
 use Rattle.rdfs.specs.Words.{fact, isFact}
 use Rattle.table.specs.Parts.{kindOf, firstOf, secondOf, thirdOf}
-use Rattle.table.proofs.Parts.{tests-fact}
+use Rattle.table.proofs.FactParts.{word-shaped}
 use Rattle.image.specs.Form.{form, inBytes}
 use Rattle.image.specs.Image.{idBytes}
 use Rattle.image.specs.Writing.{over}
@@ -23,7 +23,7 @@ single (x ∷ l) = ap (λ m. x ∷ m) (single l)
 
 module _ (w : ℕ) (f : T (isFact product w)) where
   pub kind-bounds : (1 ≤ kindOf w) × (kindOf w ≤ 10)
-  kind-bounds = let s = tests-fact w (kindOf w) (firstOf w) (secondOf w) (thirdOf w) refl refl refl refl .sound f .0 in (s .some, s .most)
+  kind-bounds = let s = word-shaped w f in (s .some, s .most)
 
   pub word-kind : IsKind (kindOf w)
   word-kind = is-kind (kindOf w) (kind-bounds .0) (kind-bounds .1)

@@ -10,13 +10,13 @@ use lib.Seq.{drop-at, drop-drop, drop-cons, drop-set-lt}
 use Rattle.rdfs.specs.Numbers.{product}
 use Rattle.rdfs.specs.Lists.{concatMap}
 use Rattle.rdfs.specs.Words.{filled}
+use Rattle.table.proofs.Counted.{counted-at}
 use Rattle.image.specs.Form.{form, factSize, entrySize, entryAt, firstBody, kindsAfter, kinds}
 use Rattle.image.specs.Image.{ofKind, idBytes, bodies, entry, contents, imageOf}
 use Rattle.image.specs.Calls.{tableImage}
-use Rattle.image.specs.Writing.{Counted, over, Overlaid, Embodied}
+use Rattle.image.specs.Writing.{Writable, over, Overlaid, Embodied}
 use Rattle.image.proofs.ImageRead.{entry-length, image-parts, bodies-at, image-length}
 use Rattle.image.proofs.Linking.{kinds-more}
-use Rattle.image.proofs.KindCount.{counted-word}
 use Rattle.image.proofs.Measuring.{counted-facts, bodies-all, image-whole, Measured, measured-start, measured-more}
 use Rattle.image.proofs.Overlaid.{overlaid-length, overlaid-self, overlaid-trans, overlaid-more, overlaid-all, two-stores}
 use Rattle.image.proofs.Product.{proper}
@@ -86,7 +86,7 @@ module _ {l out₀ out : List ℕ} {i at : ℕ} (e : Embodied l out₀ out i at)
   pub embodied-trans : {out′ : List ℕ} {j end : ℕ} → Embodied l out out′ j end → at ≤ end → Embodied l out₀ out′ j end
   embodied-trans p h = record { within = p .within; laid = overlaid-trans (e .laid) (p .laid) h; rest = p .rest }
 
-module _ (t : List ℕ) (n : ℕ) (c : Counted t n) where
+module _ (t : List ℕ) (n : ℕ) (c : Writable t n) where
   pub embodied-start : (out : List ℕ) → take (firstBody form) out ≡ take (firstBody form) (tableImage t) → Embodied (filled t) out out 0 (firstBody form)
   embodied-start out e = record {
     within = omega arith;
@@ -100,12 +100,12 @@ module _ (t : List ℕ) (n : ℕ) (c : Counted t n) where
 
     module _ (h : i < n) where
       below : i < length (filled t)
-      below = omega (arith, h, c .count)
+      below = omega (arith, h, c .counted .size)
 
       split : drop at (tableImage t) ≡ idBytes product form word ++ concatMap (idBytes product form) (drop (i + 1) (filled t))
       split =
           let next : drop i (filled t) ≡ word ∷ drop (i + 1) (filled t) =
-          drop-cons (filled t) i 0 below ∙ (ap (λ w. w ∷ drop (suc i) (filled t)) (sym (counted-word t n c i h)) ∙ ap (λ m. word ∷ drop m (filled t)) (sym (add-one i))) in
+          drop-cons (filled t) i 0 below ∙ (ap (λ w. w ∷ drop (suc i) (filled t)) (counted-at (c .counted) i h) ∙ ap (λ m. word ∷ drop m (filled t)) (sym (add-one i))) in
           e .rest ∙ ap (concatMap (idBytes product form)) next
 
       pub embodied-room : length (tableImage t) ≤ length out₀ → at + length (idBytes product form word) ≤ length out
@@ -124,5 +124,5 @@ module _ (t : List ℕ) (n : ℕ) (c : Counted t n) where
 
     pub embodied-all : n ≤ i → out ≡ tableImage t ++ drop (length (tableImage t)) out₀
     embodied-all h =
-        let none : drop i (filled t) ≡ [] = drop-of-length-le (filled t) {i = i} (omega (arith, h, c .count)) in
+        let none : drop i (filled t) ≡ [] = drop-of-length-le (filled t) {i = i} (omega (arith, h, c .counted .size)) in
         overlaid-all (e .laid) (omega (arith, length-drop at (tableImage t), ap length (e .rest ∙ ap (concatMap (idBytes product form)) none)))

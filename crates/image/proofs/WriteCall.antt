@@ -16,11 +16,11 @@ use Rattle.rdfs.proofs.Steps.{table-passes, table-stops}
 use Rattle.image.specs.Form.{form, firstBody}
 use Rattle.image.specs.Image.{idBytes}
 use Rattle.image.specs.Calls.{tableImage, writeAnswer, writeLength, writeBytes}
-use Rattle.image.specs.Writing.{Counted}
+use Rattle.image.specs.Writing.{Writable}
 use Rattle.image.proofs.Measuring.{image-whole}
 
-pub table-counted : {t : List ℕ} → Table product t → (n : ℕ) → n ≡ length (filled t) → Counted t n
-table-counted h n q = record { laid = h .laid; count = q; few = h .fits }
+pub table-writable : {t : List ℕ} → Table product t → (n : ℕ) → n ≡ length (filled t) → Writable t n
+table-writable h n q = record { counted = record { laid = h .laid; size = q }; few = h .fits }
 
 -- The answer, the length and the bytes at the end.
 abbrev pub Wrote : List ℕ → List ℕ → ℕ → ℕ → List ℕ → Type 0
@@ -52,7 +52,7 @@ module _ (t out : List ℕ) where
         (sym zero-answer, s ∙ sym (ap (λ b. cond b (length (tableImage t)) 0) yes-zero), q ∙ sym (ap (λ b. cond b (tableImage t ++ drop (length (tableImage t)) out) out) yes-zero))
 
 -- The bytes after the contents are stored: those before the first body are the image's, and those after the image are as they were.
-module _ (t : List ℕ) (n : ℕ) (c : Counted t n) (out mid : List ℕ) (e : mid ≡ take (firstBody form) (tableImage t) ++ drop (firstBody form) out) where
+module _ (t : List ℕ) (n : ℕ) (c : Writable t n) (out mid : List ℕ) (e : mid ≡ take (firstBody form) (tableImage t) ++ drop (firstBody form) out) where
   long : length (take (firstBody form) (tableImage t)) ≡ firstBody form
   long = length-take-le (firstBody form) (tableImage t) (omega (arith, image-whole t n c))
 

@@ -2,19 +2,18 @@
 use Prim.Native.Nat.{ℕ, _+_, _≤_, _<_}
 use mathlib.Core.Path.{_≡_}
 use mathlib.Core.List.{List, _++_}
-use lib.Dec.{T}
 use lib.ListN.{length, getD, take, drop}
 use Rattle.rdfs.specs.Numbers.{product, arity}
 use Rattle.rdfs.specs.Lists.{concatMap}
-use Rattle.rdfs.specs.Words.{laidOut, filled}
+use Rattle.rdfs.specs.Words.{filled}
 use Rattle.table.specs.Parts.{kindOf}
+use Rattle.table.specs.Counted.{Counted}
 use Rattle.image.specs.Form.{form}
 use Rattle.image.specs.Image.{idBytes, imageOf}
 
--- A table that is laid out, and how many facts it has.
-pub record Counted (t : List ℕ) (n : ℕ) : Type 0 where
-  pub laid : T (laidOut product 1 t)
-  pub count : n ≡ length (filled t)
+-- A table that can be written: it is laid out, n is the number of its facts, and it has at most the most words.
+pub record Writable (t : List ℕ) (n : ℕ) : Type 0 where
+  pub counted : Counted t n
   pub few : length t ≤ product .most
 
 -- The facts of a table from place i up to place j have as many ids each.

@@ -11,7 +11,7 @@ ghost use Rattle.table.specs.Parts.{kindOf, wordOf};
 ghost use Rattle.image.specs.Form.{form, byteValues, fieldValues, entryAt, firstBody};
 ghost use Rattle.image.specs.Image.{idBytes, entry};
 ghost use Rattle.image.specs.Calls.{tableImage};
-ghost use Rattle.image.specs.Writing.{Counted, Run, Embodied, over};
+ghost use Rattle.image.specs.Writing.{Writable, Run, Embodied, over};
 use crate::form::BYTE;
 use crate::form::EDITION;
 use crate::form::ENTRIES;
@@ -32,7 +32,7 @@ use table::word_of;
 
 // How many facts a table has of the kinds up to k.
 fn count_to(t: &[Word], n: usize, k: Word) -> usize
-    requires { ⌜ Counted (now t) n × (k ≤ form .entries) ⌝ }
+    requires { ⌜ Writable (now t) n × (k ≤ form .entries) ⌝ }
     ensures { λ r. ⌜ r ≡ below (take n (now (t .entry))) (wordOf (k + 1) 0 0 0) ⌝ }
 {
     let next = word_of(k + 1, 0, 0, 0);
@@ -41,7 +41,7 @@ fn count_to(t: &[Word], n: usize, k: Word) -> usize
 
 // The length of a table's image: an id for each fact, a second one from CSub on, a third one for PI.
 pub fn image_length(t: &[Word], n: usize) -> usize
-    requires { ⌜ Counted (now t) n ⌝ }
+    requires { ⌜ Writable (now t) n ⌝ }
     ensures { λ r. ⌜ (r ≡ length (tableImage (now (t .entry)))) × (r < fieldValues form) ⌝ }
 {
     let ones = count_to(t, n, LITERAL);
@@ -73,7 +73,7 @@ fn put_entry(output: &mut [u8], k: Word, start: usize, count: usize)
 
 // Stores the contents of a table's image.
 pub fn put_contents(t: &[Word], n: usize, output: &mut [u8])
-    requires { ⌜ Counted (now t) n × (length (tableImage (now t)) ≤ length (now output)) ⌝ }
+    requires { ⌜ Writable (now t) n × (length (tableImage (now t)) ≤ length (now output)) ⌝ }
     ensures { λ _. ⌜ now (output .exit) ≡ take (firstBody form) (tableImage (now (t .entry))) ++ drop (firstBody form) (now (output .entry)) ⌝ }
 {
     output[0] = EDITION as u8;
@@ -112,7 +112,7 @@ fn put_fact(output: &mut [u8], at: usize, w: Word, ids: Word) -> usize
 
 // Stores the facts from place `from` up to place `to`, which have `ids` ids each, from byte `start` on. Answers the place after them.
 fn put_run(t: &[Word], from: usize, to: usize, ids: Word, output: &mut [u8], start: usize) -> usize
-    requires { ⌜ Counted (now t) (length (filled (now t))) × Run (now t) from to ids × Embodied (filled (now t)) (now output) (now output) from start × (length (tableImage (now t)) ≤ length (now output)) ⌝ }
+    requires { ⌜ Writable (now t) (length (filled (now t))) × Run (now t) from to ids × Embodied (filled (now t)) (now output) (now output) from start × (length (tableImage (now t)) ≤ length (now output)) ⌝ }
     ensures { λ r. ⌜ Embodied (filled (now (t .entry))) (now (output .entry)) (now (output .exit)) to r × (start ≤ r) ⌝ }
 {
     let mut i = from;
@@ -126,7 +126,7 @@ fn put_run(t: &[Word], from: usize, to: usize, ids: Word, output: &mut [u8], sta
 
 // Stores the bodies of a table's image, behind its contents: the facts of one id, of two and of three.
 pub fn put_bodies(t: &[Word], n: usize, output: &mut [u8])
-    requires { ⌜ Counted (now t) n × (length (tableImage (now t)) ≤ length (now output)) × (take (firstBody form) (now output) ≡ take (firstBody form) (tableImage (now t))) ⌝ }
+    requires { ⌜ Writable (now t) n × (length (tableImage (now t)) ≤ length (now output)) × (take (firstBody form) (now output) ≡ take (firstBody form) (tableImage (now t))) ⌝ }
     ensures { λ _. ⌜ now (output .exit) ≡ tableImage (now (t .entry)) ++ drop (length (tableImage (now (t .entry)))) (now (output .entry)) ⌝ }
 {
     let ones = count_to(t, n, LITERAL);

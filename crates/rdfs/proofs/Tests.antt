@@ -1,7 +1,7 @@
 -- Tests: a Bool that is true exactly if a statement holds, by its connectives. Assumes nothing. The computed cases stand below every law, so
 -- that a definition which no longer gives them is refused there first.
 use Prim.Native.Nat.{ℕ}
-use mathlib.Core.Path.{_≡_, subst}
+use mathlib.Core.Path.{_≡_, refl, subst}
 use mathlib.Core.Bool.{Bool, true, false, not, _&&_, _||_, cond}
 use mathlib.Core.Logic.{_⊎_, inl, inr, ⊎-elim}
 use lib.Dec.{T, eqb, T-not, not-T, eqb→eq, eqb-refl}
@@ -59,6 +59,13 @@ tests-eq x y = record { sound = eqb→eq x y; complete = λ e. subst (λ z. T (e
 
 pub tests-as : {t : Bool} {P Q : Type 0} → Tests t P → (P → Q) → (Q → P) → Tests t Q
 tests-as e f g = record { sound = λ h. f (e .sound h); complete = λ q. e .complete (g q) }
+
+-- two tests of one statement agree
+pub tests-agree : {s t : Bool} {P : Type 0} → Tests s P → Tests t P → s ≡ t
+tests-agree {s = true} {t = true} d e = refl
+tests-agree {s = true} {t = false} d e = absurd (e .complete (d .sound tt))
+tests-agree {s = false} {t = true} d e = absurd (d .complete (e .sound tt))
+tests-agree {s = false} {t = false} d e = refl
 
 pub tests-none : Tests false ⊥
 tests-none = record { sound = λ h. h; complete = λ h. h }

@@ -20,6 +20,7 @@ use Rattle.rdfs.specs.Register.{step, run, Table}
 use Rattle.rdfs.specs.Lookups.{lookupClash}
 use Rattle.rdfs.specs.Orders.{SameTickets, InOrder, AllInsertions, AllAccepted}
 use Rattle.rdfs.specs.Promises.{After, Formed, Judged, Possible, PossibleUpTo, unchanged}
+use Rattle.rdfs.proofs.Tests.{tests-self, tests-agree}
 use Rattle.rdfs.proofs.Parts.{All}
 use Rattle.rdfs.proofs.Allowed.{Allowed}
 use Rattle.rdfs.proofs.Decision.{check-sound, check-complete}
@@ -99,20 +100,15 @@ rearranged-the-same = Rearrangement.rearrangement
 pub lookup-clash-is-clash : (top : ℕ) (K : List Fact) (t : Ticket) → All (Allowed top) K → T (inserts t) → Judged top K t → lookupClash K t ≡ clashes (insertion top K (asked t))
 lookup-clash-is-clash top K t aK i j =
     let an : All (Allowed top) (asked t) = asked-allowed top t i (j .kinds) (j .ids) in
-    same-test (lookupClash K t) (clashes (insertion top K (asked t)))
-    (λ h. stands (clashes (insertion top K (asked t))) (λ n.
-    let m = insertion-smallest top K (asked t) aK an (asked-seeds K t (j .consistent) (j .kinds) (j .uses)) n in
-    lookup-clash-sound top K t j h (graph (insertion top K (asked t))) (m .consistent) (m .holds-table) (m .holds-asked)))
-    (λ h. stands (lookupClash K t) (λ n.
-    let p = lookup-clash-complete top K t j n in
-    insertion-clash top K (asked t) aK an h (p .0) (p .1) (p .2) (p .3)))
+    tests-agree (tests-self (lookupClash K t)) record {
+      sound = λ h. stands (lookupClash K t) (λ n.
+          let p = lookup-clash-complete top K t j n in
+          insertion-clash top K (asked t) aK an h (p .0) (p .1) (p .2) (p .3));
+      complete = λ h. stands (clashes (insertion top K (asked t))) (λ n.
+          let m = insertion-smallest top K (asked t) aK an (asked-seeds K t (j .consistent) (j .kinds) (j .uses)) n in
+          lookup-clash-sound top K t j h (graph (insertion top K (asked t))) (m .consistent) (m .holds-table) (m .holds-asked));
+    }
   where
     stands : (b : Bool) → ((T b → ⊥) → ⊥) → T b
     stands true h = tt
     stands false h = absurd (h (λ e. e))
-
-    same-test : (a b : Bool) → (T a → T b) → (T b → T a) → a ≡ b
-    same-test true true f g = refl
-    same-test true false f g = absurd (f tt)
-    same-test false true f g = absurd (g tt)
-    same-test false false f g = refl

@@ -1,41 +1,24 @@
--- A lookup in a table that is laid out: where the search is made, and what it says of a fact. Assumes nothing.
-use Prim.Native.Nat.{ℕ, _≤_}
-use mathlib.Core.Path.{_≡_, refl, ap, subst, _∙_}
-use mathlib.Core.Bool.{Bool, true, false}
+-- A lookup in a table that is laid out: what the search says of a fact. Assumes nothing.
+use Prim.Native.Nat.{ℕ}
+use mathlib.Core.Path.{_≡_, ap, subst, _∙_}
 use mathlib.Core.List.{List}
 use native.Mathlib.Omega.{arith}
-use lib.ListN.{length, take}
+use lib.ListN.{take}
 use Rattle.rdfs.specs.Numbers.{product}
-use Rattle.rdfs.specs.Lists.{_∈_, Ascending, member}
+use Rattle.rdfs.specs.Lists.{_∈_, member}
 use Rattle.rdfs.specs.Facts.{made, has}
 use Rattle.rdfs.specs.Words.{fact, filled}
-use Rattle.rdfs.proofs.Tests.{Tests, tests-as}
+use Rattle.rdfs.proofs.Tests.{tests-as, tests-agree}
 use Rattle.rdfs.proofs.Lists.{map-in}
 use Rattle.rdfs.proofs.Facts.{tests-has, tests-member}
 use Rattle.rdfs.proofs.LaidOut.{laid-word-in}
 use Rattle.table.specs.Parts.{kindOf, firstOf, secondOf, thirdOf, wordOf, Shaped}
 use Rattle.table.specs.Counted.{Counted, Id, factsOf}
 use Rattle.table.proofs.Parts.{word-made}
-use Rattle.table.proofs.Filled.{counted-filled, counted-ascending}
-
--- Two tests of one statement agree.
-tests-agree : {P : Type 0} {s t : Bool} → Tests s P → Tests t P → s ≡ t
-tests-agree {s = true} {t = true} d e = refl
-tests-agree {s = true} {t = false} d e = absurd (e .complete (d .sound tt))
-tests-agree {s = false} {t = true} d e = absurd (d .complete (e .sound tt))
-tests-agree {s = false} {t = false} d e = refl
-
-made-same : {k a b c k′ a′ b′ c′ : ℕ} → k ≡ k′ → a ≡ a′ → b ≡ b′ → c ≡ c′ → made k a b c ≡ made k′ a′ b′ c′
-made-same p q r s = rw (p, q, r, s) refl
+use Rattle.table.proofs.Counted.{counted-first}
+use Rattle.table.proofs.FactParts.{made-same}
 
 module _ (t : List ℕ) (n : ℕ) (q : Counted t n) where
-  -- The first n words are the facts', ascending.
-  pub counted-first : take n t ≡ filled t
-  counted-first = counted-filled product t (q .laid) n (q .size)
-
-  pub counted-search : (n ≤ length t) × Ascending (take n t)
-  counted-search = counted-ascending product t (q .laid) n (q .size)
-
   -- A fact is in the table if its word is among them.
   pub has-word-of : (k a b c : ℕ) → Shaped k b c → Id a → Id b → Id c → member (take n t) (wordOf k a b c) ≡ has (factsOf t) (made k a b c)
   has-word-of k a b c s ha hb hc =
@@ -44,4 +27,4 @@ module _ (t : List ℕ) (n : ℕ) (q : Counted t n) where
       let again : fact (product .base) w ≡ made k a b c = made-same (parts .0) (parts .1) (parts .2) (parts .3) in
       let there : w ∈ filled t → made k a b c ∈ factsOf t = λ h. subst (λ g. g ∈ factsOf t) again (map-in (fact (product .base)) h) in
       let back : made k a b c ∈ factsOf t → w ∈ filled t = λ h. subst (λ x. x ∈ filled t) (word-made k a b c s) (laid-word-in product t (q .laid) (made k a b c) h) in
-      ap (λ l. member l w) counted-first ∙ tests-agree (tests-as (tests-member (filled t) w) there back) (tests-has (factsOf t) (made k a b c))
+      ap (λ l. member l w) (counted-first q) ∙ tests-agree (tests-as (tests-member (filled t) w) there back) (tests-has (factsOf t) (made k a b c))

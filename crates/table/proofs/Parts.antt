@@ -14,13 +14,13 @@ use Rattle.rdfs.proofs.Allowed.{tests-allowed}
 use Rattle.table.specs.Parts.{kindOf, firstOf, secondOf, thirdOf, wordOf, Shaped, Allowed}
 
 -- A fact's own parts are shaped.
-one-id : (k : ℕ) → 1 ≤ k → k ≤ 4 → Shaped k 0 0
+pub one-id : (k : ℕ) → 1 ≤ k → k ≤ 4 → Shaped k 0 0
 one-id k h l = record { some = h; most = omega arith; second = λ _. refl; third = λ _. refl }
 
-two-ids : (k b : ℕ) → 5 ≤ k → k ≤ 9 → Shaped k b 0
+pub two-ids : (k b : ℕ) → 5 ≤ k → k ≤ 9 → Shaped k b 0
 two-ids k b h l = record { some = omega arith; most = omega arith; second = λ s. absurd (omega arith); third = λ _. refl }
 
-parts-shaped : (f : Fact) → Shaped (kind f) (second f) (third f)
+pub parts-shaped : (f : Fact) → Shaped (kind f) (second f) (third f)
 parts-shaped (cl a) = one-id 1 (lit≤ tt) (lit≤ tt)
 parts-shaped (pr a) = one-id 2 (lit≤ tt) (lit≤ tt)
 parts-shaped (ind a) = one-id 3 (lit≤ tt) (lit≤ tt)

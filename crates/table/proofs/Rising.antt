@@ -2,7 +2,7 @@
 use Prim.Native.Nat.{ℕ, zero, suc, _+_, _≤_, _<_}
 use mathlib.Core.Path.{_≡_, refl, sym, ap, _∙_}
 use mathlib.Core.Logic.{_⊎_, inl, inr, ⊎-elim}
-use mathlib.Core.Bool.{Bool, true, false, _&&_, cond}
+use mathlib.Core.Bool.{Bool, true, false, _&&_, cond, and-false}
 use mathlib.Core.List.{List, [], _∷_}
 use native.Mathlib.Omega.{arith}
 use native.Mathlib.Numerals.{add-one}
@@ -38,11 +38,7 @@ module _ (least w : ℕ) (l : List ℕ) where
   laid-low h = either-zero (eqb w 0) _ (ap (λ b. b && (isFact product w && laidOut product (suc w) l)) (lt-leb least w h))
 
   pub laid-no-fact : isFact product w ≡ false → laidOut product least (w ∷ l) ≡ zeros (w ∷ l)
-  laid-no-fact e = either-zero (eqb w 0) _ (and-false (leb least w) _ (ap (λ b. b && laidOut product (suc w) l) e))
-    where
-      and-false : (a b : Bool) → b ≡ false → (a && b) ≡ false
-      and-false true b e = e
-      and-false false b e = refl
+  laid-no-fact e = either-zero (eqb w 0) _ (ap (λ b. leb least w && (b && laidOut product (suc w) l)) e ∙ and-false (leb least w))
 
   pub zeros-not : 0 < w → zeros (w ∷ l) ≡ false
   zeros-not p = ap (λ b. b && zeros l) (ne-eqb w 0 (omega arith))

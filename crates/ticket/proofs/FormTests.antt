@@ -1,7 +1,7 @@
--- Tests made in turn, and the bytes of a record. Assumes nothing.
+-- Tests of a ticket's bytes, and the bytes of a record. Assumes nothing.
 use Prim.Native.Nat.{ℕ, _≤_, _<_}
 use mathlib.Core.Path.{_≡_, refl, sym, ap, _∙_}
-use mathlib.Core.Bool.{Bool, true, false, not, _&&_, _||_, cond}
+use mathlib.Core.Bool.{Bool, true, false, not, _&&_, _||_, cond, and-true, or-true}
 use mathlib.Core.List.{List, [], _∷_}
 use native.Mathlib.Omega.{arith}
 use lib.Dec.{eqb, ltb}
@@ -11,14 +11,6 @@ use Rattle.rdfs.specs.Facts.{Fact, pr, dom, rng, made, has}
 use Rattle.rdfs.specs.Tickets.{asked}
 use Rattle.ticket.specs.Form.{ticketOf}
 use borrow.Author.Tests.{lt-ltb, le-ltb, eq-eqb, ne-eqb}
-
-pub or-none : (s : Bool) → s ≡ (s || false)
-or-none true = refl
-or-none false = refl
-
-pub and-last : (s : Bool) → s ≡ (s && true)
-and-last true = refl
-and-last false = refl
 
 -- A byte x, made wide as r and compared with v.
 module _ {r x v : ℕ} (w : r ≡ x) where
@@ -53,11 +45,7 @@ module _ {r n : ℕ} (e : r ≡ n) (b c : ℕ) where
   unused-none h = simp (le-ltb n 2 (omega (arith, e)), le-ltb n 3 (omega (arith, e)))
 
   pub unused-third : r ≤ 2 → (c ≡ 0 → ⊥) → true ≡ unused n b c
-  unused-third h d = or-true (ltb n 2 && not (eqb b 0)) ∙ ap (λ z. (ltb n 2 && not (eqb b 0)) || z) (simp (lt-ltb n 3 (omega (arith, e)), ne-eqb c 0 d))
-    where
-      or-true : (s : Bool) → true ≡ (s || true)
-      or-true true = refl
-      or-true false = refl
+  unused-third h d = sym (or-true (ltb n 2 && not (eqb b 0))) ∙ ap (λ z. (ltb n 2 && not (eqb b 0)) || z) (simp (lt-ltb n 3 (omega (arith, e)), ne-eqb c 0 d))
 
   module _ (z : c ≡ 0) where
     pub unused-two : r ≤ 2 → 1 < r → false ≡ unused n b c
@@ -71,4 +59,4 @@ module _ {r n : ℕ} (e : r ≡ n) (b c : ℕ) where
 
 -- An insertion of another kind than 2 asks for one fact.
 pub asked-one : (K : List Fact) (k a b c : ℕ) → (k ≡ 2 → ⊥) → has K (made k a b c) ≡ all (has K) (asked (ticketOf 1 k a b c))
-asked-one K k a b c n = and-last (has K (made k a b c)) ∙ ap (all (has K)) (sym (ap (λ z. cond z (pr a ∷ dom a b ∷ rng a c ∷ []) (made k a b c ∷ [])) (ne-eqb k 2 n)))
+asked-one K k a b c n = sym (and-true (has K (made k a b c))) ∙ ap (all (has K)) (sym (ap (λ z. cond z (pr a ∷ dom a b ∷ rng a c ∷ []) (made k a b c ∷ [])) (ne-eqb k 2 n)))

@@ -26,7 +26,7 @@ use Rattle.rdfs.proofs.InsertionSteps.{new-is}
 use Rattle.rdfs.proofs.Within.{repeated-insertion}
 use Rattle.table.specs.Counted.{factsOf}
 use Rattle.table.specs.Room.{clearedFrom}
-use Rattle.table.proofs.Filled.{counted-filled, counted-ascending}
+use Rattle.table.proofs.Counted.{counted-first, counted-search}
 use Rattle.insertion.specs.Answers.{Insertable, GrowMeans}
 use Rattle.insertion.specs.declared.put.Grown.{Grown}
 use Rattle.insertion.specs.declared.put.Grown.the-variants.{Facts as Grows, Full}
@@ -113,7 +113,7 @@ possible-insertable {w} {n} {k} {a} {b} {c} p =
     }
 
 pub possible-within : {w : List ℕ} {n k a b c : ℕ} → Possible w n k a b c → n ≤ length w
-possible-within {w} {n} p = counted-ascending product w (p .ready .table .laid) n (p .ready .size) .0
+possible-within p = counted-search (ready-asked (p .ready) .table) .0
 
 pub possible-fits : {w : List ℕ} {n k a b c : ℕ} → Possible w n k a b c → n ≤ product .most
 possible-fits p = omega (arith, possible-within p, p .ready .table .fits)
@@ -132,7 +132,7 @@ module _ {w : List ℕ} {n k a b c : ℕ} (p : Possible w n k a b c) (x : List �
       let q = subst (GrowMeans w (ticketOf 1 k a b c) x) f h in
       let over = no-room (tooMany product w (insertion (product .top) (factsOf w) (asked (ticketOf 1 k a b c)))) (q .0) in
       let t = ready-asked (p .ready) .table in
-      let facts-saved : s ≡ filled w = saved ∙ counted-filled product w (t .laid) n (t .size) in
+      let facts-saved : s ≡ filled w = saved ∙ counted-first t in
       let again = back ∙ (ap (λ j. padded j s) (q .1) ∙ (ap (padded (length w)) facts-saved ∙ sym (laid-shape product w (t .laid)))) in
       subst (λ y. Stepped n (Refused 11) y (step product w (recordOf 1 k a b c))) (sym again) (way-full p (ltb→lt (length w) (length (grownWords w k a b c)) over))
 

@@ -5,7 +5,7 @@ use mathlib.Core.List.{List, _++_}
 use Prim.Native.Nat.{ℕ, _≤_, _<_}
 use lib.ListN.{length}
 use Rattle.image.specs.Calls.{tableImage}
-use Rattle.image.proofs.WriteCall.{table-counted, write-short, write-done, stored-first, stored-after}
+use Rattle.image.proofs.WriteCall.{table-writable, write-short, write-done, stored-first, stored-after}
 use borrow.Author.Needs.{needs}
 use Rattle.image.proofs.write_checked.Statement.{statement}
 use Rattle.image.proofs.write_checked.Tie as tie
@@ -31,9 +31,9 @@ put-bodies-requires c κs =
     let at-count = at-length .before in
     let s = at-count .before .before .before in
     let out : List ℕ = s .args .output .now in
-    let counted = table-counted (s .pre) (at-count .count-facts .result) (at-count .count-facts .ensures) in
+    let writable = table-writable (s .pre) (at-count .count-facts .result) (at-count .count-facts .ensures) in
     let fits = subst (λ m. m ≤ length out) (at-length .image-length .ensures .0) (at-contents .before .before .if1 .left) in
-    (counted, omega (arith, fits, at-contents .put-contents .kept), stored-first (s .args .t .now) (at-count .count-facts .result) counted out _ (at-contents .put-contents .ensures))
+    (writable, omega (arith, fits, at-contents .put-contents .kept), stored-first (s .args .t .now) (at-count .count-facts .result) writable out _ (at-contents .put-contents .ensures))
 
 cast-t12 : tie.Need-cast-t12
 cast-t12 c = search needs
@@ -50,10 +50,10 @@ returns-2 c =
     let s = at-count .before .before .before in
     let t : List ℕ = s .args .t .now in
     let out : List ℕ = s .args .output .now in
-    let counted = table-counted (s .pre) (at-count .count-facts .result) (at-count .count-facts .ensures) in
+    let writable = table-writable (s .pre) (at-count .count-facts .result) (at-count .count-facts .ensures) in
     let fits = subst (λ m. m ≤ length out) (at-length .image-length .ensures .0) (at-contents .before .before .if1 .left) in
     write-done t out (s .pre) fits (at-length .image-length .result) (at-length .image-length .ensures .0) _
-    (at-bodies .put-bodies .ensures ∙ ap (λ m. tableImage t ++ m) (stored-after t (at-count .count-facts .result) counted out _ (at-contents .put-contents .ensures)))
+    (at-bodies .put-bodies .ensures ∙ ap (λ m. tableImage t ++ m) (stored-after t (at-count .count-facts .result) writable out _ (at-contents .put-contents .ensures)))
 
 pub write-checked-spec : {M : Type 1} → statement M
 write-checked-spec =

@@ -3,7 +3,8 @@ use native.Mathlib.Omega.{arith}
 use mathlib.Core.Path.{sym, _∙_}
 use Prim.Native.Nat.{_-_}
 use borrow.Author.Tests.{not-true, not-false}
-use Rattle.image.proofs.Climbing.{Climb, climb-start, climb-within, climb-more, climb-low, climb-no-fact, climb-end}
+use Rattle.image.proofs.Climbing.{Climb, climb-start, climb-more, climb-low, climb-no-fact, climb-end}
+use Rattle.image.proofs.Places.{fact-within}
 use borrow.Author.Needs.{needs}
 use Rattle.image.proofs.bodies.rise_of.Statement.{statement}
 use Rattle.image.proofs.bodies.rise_of.Tie as tie
@@ -21,7 +22,9 @@ loop-holds : tie.Need-loop-holds Inv-loop μ-loop
 loop-holds c = climb-start _ _ _ _ _
 
 word-at-requires : tie.Need-word-at-requires Inv-loop μ-loop
-word-at-requires c κs = (c .before .before .before .before .pre .0, c .before .before .before .before .pre .1, climb-within _ _ (c .before .loop .inv) _ (c .loop-test .taken) (c .before .before .before .before .pre .2))
+word-at-requires c κs =
+    let start = c .before .before .before .before in
+    (start .pre .0, start .pre .1, fact-within (start .args .k) _ _ _ _ _ (c .before .loop .inv .place) (c .loop-test .taken) (start .pre .2))
 
 returns : tie.Need-returns Inv-loop μ-loop
 returns c = climb-low _ _ (c .before .before .before .loop .inv) (c .before .before .loop-test .taken) _ (c .before .word-at .ensures) (c .if1 .taken)
@@ -33,7 +36,9 @@ returns-2 : tie.Need-returns-2 Inv-loop μ-loop
 returns-2 c = climb-no-fact _ _ (c .before .before .before .before .before .loop .inv) (c .before .before .before .before .loop-test .taken) _ (c .before .before .before .word-at .ensures) (sym (c .before .is-fact .ensures) ∙ not-true (c .before .is-fact .result) (c .if2 .taken))
 
 add-p : tie.Need-add-p Inv-loop μ-loop
-add-p c = omega (arith, c .before .before .before .before .before .before .fact-size .ensures .0, climb-within _ _ (c .before .before .before .before .before .loop .inv) _ (c .before .before .before .before .loop-test .taken) (c .before .before .before .before .before .before .before .before .pre .2))
+add-p c =
+    let start = c .before .before .before .before .before .before .before .before in
+    omega (arith, c .before .before .before .before .before .before .fact-size .ensures .0, fact-within (start .args .k) _ _ _ _ _ (c .before .before .before .before .before .loop .inv .place) (c .before .before .before .before .loop-test .taken) (start .pre .2))
 
 add-i : tie.Need-add-i Inv-loop μ-loop
 add-i c = omega (arith, c .before .before .before .before .loop-test .taken)

@@ -1,7 +1,8 @@
 -- `reader::fill_body`. The loop's invariant is `Stored`: the first i words stand in their places. The measure is the number of facts left. Assumes nothing.
 use native.Mathlib.Omega.{arith}
 use Prim.Native.Nat.{_-_}
-use Rattle.image.proofs.Filling.{Stored, stored-start, stored-length, stored-within, stored-more, stored-end}
+use Rattle.image.proofs.Filling.{Stored, stored-start, stored-length, stored-more, stored-end}
+use Rattle.image.proofs.Places.{fact-within}
 use borrow.Author.Needs.{needs}
 use Rattle.image.proofs.reader.fill_body.Statement.{statement}
 use Rattle.image.proofs.reader.fill_body.Tie as tie
@@ -19,7 +20,9 @@ loop-holds : tie.Need-loop-holds Inv-loop μ-loop
 loop-holds c = stored-start _ _ _ _ _ _
 
 word-at-requires : tie.Need-word-at-requires Inv-loop μ-loop
-word-at-requires c κs = (c .before .before .before .before .before .pre .0, c .before .before .before .before .before .pre .1, stored-within _ _ _ _ (c .before .loop .inv) (c .before .before .before .before .before .pre .3) _ (c .loop-test .taken) (c .before .before .before .before .before .pre .2))
+word-at-requires c κs =
+    let start = c .before .before .before .before .before in
+    (start .pre .0, start .pre .1, fact-within (start .args .k) _ _ _ _ _ (c .before .loop .inv .at) (c .loop-test .taken) (start .pre .2))
 
 add-t : tie.Need-add-t Inv-loop μ-loop
 add-t c = omega (arith, c .before .loop-test .taken, c .before .before .before .before .before .before .pre .3)
@@ -31,7 +34,9 @@ slice-write-t : tie.Need-slice-write-t Inv-loop μ-loop
 slice-write-t c = omega (arith, c .before .loop-test .taken, c .before .before .before .before .before .before .pre .3, stored-length _ _ _ _ (c .before .before .loop .inv) (c .before .before .before .before .before .before .pre .3))
 
 add-p : tie.Need-add-p Inv-loop μ-loop
-add-p c = omega (arith, c .before .before .before .fact-size .ensures .0, stored-within _ _ _ _ (c .before .before .loop .inv) (c .before .before .before .before .before .before .pre .3) _ (c .before .loop-test .taken) (c .before .before .before .before .before .before .pre .2))
+add-p c =
+    let start = c .before .before .before .before .before .before in
+    omega (arith, c .before .before .before .fact-size .ensures .0, fact-within (start .args .k) _ _ _ _ _ (c .before .before .loop .inv .at) (c .before .loop-test .taken) (start .pre .2))
 
 add-i : tie.Need-add-i Inv-loop μ-loop
 add-i c = omega (arith, c .before .loop-test .taken)

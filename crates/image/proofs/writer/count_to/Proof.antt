@@ -3,7 +3,7 @@ use native.Mathlib.Omega.{arith}
 use mathlib.Core.Path.{ap, _∙_}
 use lib.ListN.{take}
 use Rattle.table.specs.Found.{below}
-use Rattle.image.proofs.KindCount.{counted-ready}
+use Rattle.table.proofs.Counted.{counted-search}
 use borrow.Author.Needs.{needs}
 use Rattle.image.proofs.writer.count_to.Statement.{statement}
 use Rattle.image.proofs.writer.count_to.Tie as tie
@@ -17,7 +17,7 @@ word-of-requires c κs = record { kind = omega (arith, c .before .pre .1); first
 count-below-requires : tie.Need-count-below-requires
 count-below-requires c κs =
     let s = c .before .before in
-    counted-ready (s .args .t .now) (s .args .n) (s .pre .0)
+    counted-search (s .pre .0 .counted)
 
 returns : tie.Need-returns
 returns c =

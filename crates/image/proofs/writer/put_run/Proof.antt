@@ -6,8 +6,8 @@ use lib.ListN.{length}
 use Rattle.rdfs.specs.Numbers.{product}
 use Rattle.rdfs.specs.Words.{filled}
 use Rattle.table.proofs.Filled.{filled-within}
+use Rattle.table.proofs.Counted.{counted-fact}
 use Rattle.image.specs.Writing.{Embodied}
-use Rattle.image.proofs.KindCount.{counted-fact}
 use Rattle.image.proofs.Overlaid.{overlaid-length}
 use Rattle.image.proofs.PutParts.{embodied-room, embodied-more}
 use Rattle.image.proofs.writer.put_run.Statement.{statement}
@@ -27,12 +27,12 @@ loop-holds c =
 mul-put-fact : tie.Need-mul-put-fact Inv-loop μ-loop
 mul-put-fact c =
     let s = c .before .before .before .before .before in
-    omega (arith, c .before .loop-test .taken, s .pre .1 .within, filled-within product (s .args .t .now) (s .pre .0 .laid))
+    omega (arith, c .before .loop-test .taken, s .pre .1 .within, filled-within product (s .args .t .now) (s .pre .0 .counted .laid))
 
 shared-slice-read-put-fact : tie.Need-shared-slice-read-put-fact Inv-loop μ-loop
 shared-slice-read-put-fact c =
     let s = c .before .before .before .before .before .before in
-    omega (arith, c .before .before .loop-test .taken, s .pre .1 .within, filled-within product (s .args .t .now) (s .pre .0 .laid))
+    omega (arith, c .before .before .loop-test .taken, s .pre .1 .within, filled-within product (s .args .t .now) (s .pre .0 .counted .laid))
 
 put-fact-requires : tie.Need-put-fact-requires Inv-loop μ-loop
 put-fact-requires c κs =
@@ -40,7 +40,7 @@ put-fact-requires c κs =
     let s = at-loop .before .before .before in
     let t = s .args .t .now in
     let inside : at-loop .loop .i < length (filled t) = omega (arith, c .before .before .loop-test .taken, s .pre .1 .within) in (
-      counted-fact t (length (filled t)) (s .pre .0) (at-loop .loop .i) inside,
+      counted-fact (s .pre .0 .counted) (at-loop .loop .i) inside,
       embodied-room t (length (filled t)) (s .pre .0) (at-loop .loop .inv .0) inside (s .pre .3),
       s .pre .1 .alike (at-loop .loop .i) (at-loop .loop .inv .2) (c .before .before .loop-test .taken),
     )

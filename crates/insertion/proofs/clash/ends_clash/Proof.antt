@@ -1,6 +1,6 @@
 -- `clash::ends_clash`: test by test. Assumes nothing.
 use borrow.Author.Needs.{needs}
-use Rattle.insertion.proofs.ClashAnswers.{told, or-first, or-second, or-rest}
+use Rattle.table.proofs.InTurn.{told, or-first, or-second, or-rest}
 use Rattle.insertion.proofs.clash.ends_clash.Statement.{statement}
 use Rattle.insertion.proofs.clash.ends_clash.Tie as tie
 

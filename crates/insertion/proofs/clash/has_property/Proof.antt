@@ -1,6 +1,6 @@
 -- `clash::has_property`: fact by fact. Assumes nothing.
 use borrow.Author.Needs.{needs}
-use Rattle.insertion.proofs.ClashAnswers.{told, and-first, and-rest, and-last}
+use Rattle.table.proofs.InTurn.{told, and-first, and-rest, and-last}
 use Rattle.insertion.proofs.clash.has_property.Statement.{statement}
 use Rattle.insertion.proofs.clash.has_property.Tie as tie
 

@@ -1,7 +1,7 @@
 -- `clash::is_mixed`: by the first range. Assumes nothing.
 use mathlib.Core.Path.{refl}
 use borrow.Author.Tests.{eq-eqb, ne-eqb}
-use Rattle.insertion.proofs.ClashAnswers.{or-last}
+use Rattle.table.proofs.InTurn.{or-last}
 use Rattle.insertion.proofs.clash.is_mixed.Statement.{statement}
 use Rattle.insertion.proofs.clash.is_mixed.Tie as tie
 

@@ -1,7 +1,7 @@
 -- `clash::is_no_link`: test by test. Assumes nothing.
 use borrow.Author.Tests.{eq-eqb, ne-eqb}
 use borrow.Author.Needs.{needs}
-use Rattle.insertion.proofs.ClashAnswers.{or-first, or-rest}
+use Rattle.table.proofs.InTurn.{or-first, or-rest}
 use Rattle.insertion.proofs.clash.is_no_link.Statement.{statement}
 use Rattle.insertion.proofs.clash.is_no_link.Tie as tie
 

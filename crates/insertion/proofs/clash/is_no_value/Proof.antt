@@ -1,7 +1,7 @@
 -- `clash::is_no_value`: by the range. Assumes nothing.
 use mathlib.Core.Path.{refl}
 use borrow.Author.Needs.{needs}
-use Rattle.insertion.proofs.ClashAnswers.{told, or-first, or-rest, cond-then, cond-else}
+use Rattle.table.proofs.InTurn.{told, or-first, or-rest, cond-then, cond-else}
 use Rattle.insertion.proofs.clash.is_no_value.Statement.{statement}
 use Rattle.insertion.proofs.clash.is_no_value.Tie as tie
 

@@ -1,7 +1,7 @@
 -- `clash::is_own_end`: the domain, or the range. Assumes nothing.
 use mathlib.Core.Path.{refl}
 use borrow.Author.Tests.{eq-eqb, ne-eqb}
-use Rattle.insertion.proofs.ClashAnswers.{or-first, or-rest}
+use Rattle.table.proofs.InTurn.{or-first, or-rest}
 use Rattle.insertion.proofs.clash.is_own_end.Statement.{statement}
 use Rattle.insertion.proofs.clash.is_own_end.Tie as tie
 

@@ -1,7 +1,7 @@
 -- `clash::member_clashes`: test by test. Assumes nothing.
 use mathlib.Core.Path.{refl}
 use borrow.Author.Needs.{needs}
-use Rattle.insertion.proofs.ClashAnswers.{told, or-first, or-second, or-rest}
+use Rattle.table.proofs.InTurn.{told, or-first, or-second, or-rest}
 use Rattle.insertion.proofs.clash.member_clashes.Statement.{statement}
 use Rattle.insertion.proofs.clash.member_clashes.Tie as tie
 

@@ -1,6 +1,6 @@
 -- `clash::new_property_clashes`: test by test. Assumes nothing.
 use borrow.Author.Needs.{needs}
-use Rattle.insertion.proofs.ClashAnswers.{told, or-first, or-second, or-rest}
+use Rattle.table.proofs.InTurn.{told, or-first, or-second, or-rest}
 use Rattle.insertion.proofs.clash.new_property_clashes.Statement.{statement}
 use Rattle.insertion.proofs.clash.new_property_clashes.Tie as tie
 

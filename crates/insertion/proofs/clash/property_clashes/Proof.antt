@@ -2,7 +2,7 @@
 use mathlib.Core.Path.{ap}
 use mathlib.Core.Bool.{not}
 use borrow.Author.Needs.{needs}
-use Rattle.insertion.proofs.ClashAnswers.{told, and-first, and-rest}
+use Rattle.table.proofs.InTurn.{told, and-first, and-rest}
 use Rattle.insertion.proofs.clash.property_clashes.Statement.{statement}
 use Rattle.insertion.proofs.clash.property_clashes.Tie as tie
 

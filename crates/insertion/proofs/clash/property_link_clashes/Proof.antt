@@ -8,7 +8,7 @@ use borrow.Author.Needs.{needs}
 use Rattle.rdfs.specs.Facts.{Fact}
 use Rattle.table.specs.Counted.{factsOf}
 use Rattle.insertion.specs.ClashParts.{endsClash}
-use Rattle.insertion.proofs.ClashAnswers.{told, or-first, or-rest}
+use Rattle.table.proofs.InTurn.{told, or-first, or-rest}
 use Rattle.insertion.proofs.clash.property_link_clashes.Statement.{statement}
 use Rattle.insertion.proofs.clash.property_link_clashes.Tie as tie
 

@@ -1,6 +1,6 @@
 -- `clash::value_clashes`: the subject, then the value. Assumes nothing.
 use borrow.Author.Needs.{needs}
-use Rattle.insertion.proofs.ClashAnswers.{told, or-first, or-rest}
+use Rattle.table.proofs.InTurn.{told, or-first, or-rest}
 use Rattle.insertion.proofs.clash.value_clashes.Statement.{statement}
 use Rattle.insertion.proofs.clash.value_clashes.Tie as tie
 

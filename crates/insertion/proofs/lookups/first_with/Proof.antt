@@ -1,7 +1,7 @@
 -- `lookups::first_with`: the first word of the run, if the search ends in it. Assumes nothing.
 use native.Mathlib.Omega.{arith}
 use borrow.Author.Needs.{needs}
-use Rattle.table.proofs.LookedUp.{counted-search}
+use Rattle.table.proofs.Counted.{counted-search}
 use Rattle.insertion.proofs.LookedRun.{run-found}
 use Rattle.insertion.proofs.lookups.first_with.Statement.{statement}
 use Rattle.insertion.proofs.lookups.first_with.Tie as tie
@@ -10,17 +10,17 @@ word-of-requires : tie.Need-word-of-requires
 word-of-requires c κs = search needs
 
 count-below-requires : tie.Need-count-below-requires
-count-below-requires c κs = counted-search _ _ (c .before .before .pre .0)
+count-below-requires c κs = counted-search (c .before .before .pre .0)
 
 mul-w : tie.Need-mul-w
 mul-w c =
-    let within = counted-search _ _ (c .before .before .before .before .pre .0) .0 in
+    let within = counted-search (c .before .before .before .before .pre .0) .0 in
     omega arith
 
 shared-slice-read-w : tie.Need-shared-slice-read-w
 shared-slice-read-w c =
     let s = c .before .before .before .before .before in
-    let within = counted-search _ _ (s .pre .0) .0 in
+    let within = counted-search (s .pre .0) .0 in
     omega arith
 
 sub-if2 : tie.Need-sub-if2

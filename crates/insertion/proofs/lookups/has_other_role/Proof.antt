@@ -1,6 +1,6 @@
 -- `lookups::has_other_role`: role by role. Assumes nothing.
 use borrow.Author.Needs.{needs}
-use Rattle.insertion.proofs.ClashAnswers.{told, or-first, or-second, or-rest, or-last}
+use Rattle.table.proofs.InTurn.{told, or-first, or-second, or-rest, or-last}
 use Rattle.insertion.proofs.lookups.has_other_role.Statement.{statement}
 use Rattle.insertion.proofs.lookups.has_other_role.Tie as tie
 

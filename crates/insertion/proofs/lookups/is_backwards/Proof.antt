@@ -3,7 +3,7 @@ use mathlib.Core.Path.{ap}
 use mathlib.Core.Bool.{not}
 use borrow.Author.Tests.{eq-eqb, ne-eqb}
 use borrow.Author.Needs.{needs}
-use Rattle.insertion.proofs.ClashAnswers.{and-first, and-rest}
+use Rattle.table.proofs.InTurn.{and-first, and-rest}
 use Rattle.insertion.proofs.lookups.is_backwards.Statement.{statement}
 use Rattle.insertion.proofs.lookups.is_backwards.Tie as tie
 

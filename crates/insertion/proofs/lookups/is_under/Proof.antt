@@ -1,7 +1,7 @@
 -- `lookups::is_under`: the same, or below. Assumes nothing.
 use borrow.Author.Tests.{eq-eqb, ne-eqb}
 use borrow.Author.Needs.{needs}
-use Rattle.insertion.proofs.ClashAnswers.{or-first, or-rest}
+use Rattle.table.proofs.InTurn.{or-first, or-rest}
 use Rattle.insertion.proofs.lookups.is_under.Statement.{statement}
 use Rattle.insertion.proofs.lookups.is_under.Tie as tie
 

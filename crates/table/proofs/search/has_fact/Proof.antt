@@ -4,7 +4,8 @@ use denote.Ref.{now}
 use lib.ListN.{take}
 use borrow.Author.Needs.{needs}
 use Rattle.rdfs.specs.Lists.{member}
-use Rattle.table.proofs.LookedUp.{counted-search, has-word-of}
+use Rattle.table.proofs.Counted.{counted-search}
+use Rattle.table.proofs.LookedUp.{has-word-of}
 use Rattle.table.proofs.search.has_fact.Statement.{statement}
 use Rattle.table.proofs.search.has_fact.Tie as tie
 
@@ -12,7 +13,7 @@ word-of-requires : tie.Need-word-of-requires
 word-of-requires c κs = search needs
 
 has-word-requires : tie.Need-has-word-requires
-has-word-requires c κs = let s = c .before .before in counted-search (now (s .args .t)) (s .args .n) (s .pre .0)
+has-word-requires c κs = let s = c .before .before in counted-search (s .pre .0)
 
 returns : tie.Need-returns
 returns c =

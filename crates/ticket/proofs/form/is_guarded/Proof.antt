@@ -1,7 +1,8 @@
 -- `form::is_guarded`: the operation, then kind by kind. Assumes nothing.
 use mathlib.Core.Path.{sym, _∙_}
+use mathlib.Core.Bool.{or-false}
 use borrow.Author.Tests.{eq-eqb, ne-eqb}
-use Rattle.ticket.proofs.FormTests.{wide-not, or-none}
+use Rattle.ticket.proofs.FormTests.{wide-not}
 use borrow.Author.Needs.{needs}
 use Rattle.ticket.proofs.form.is_guarded.Statement.{statement}
 use Rattle.ticket.proofs.form.is_guarded.Tie as tie
@@ -19,7 +20,7 @@ is-resource-requires-3 : tie.Need-is-resource-requires-3
 is-resource-requires-3 c κs = search needs
 
 returns : tie.Need-returns
-returns c = simp (eq-eqb _ _ (c .before .before .before .if1 .taken), sym (c .before .before .wide .ensures) ∙ c .before .match .keys1) (c .is-resource .ensures ∙ or-none _)
+returns c = simp (eq-eqb _ _ (c .before .before .before .if1 .taken), sym (c .before .before .wide .ensures) ∙ c .before .match .keys1) (c .is-resource .ensures ∙ sym (or-false _))
 
 returns-2 : tie.Need-returns-2
 returns-2 c = simp (eq-eqb _ _ (c .before .before .before .if1 .taken), sym (c .before .before .wide .ensures) ∙ c .before .match .keys2) (c .is-resource2 .ensures)

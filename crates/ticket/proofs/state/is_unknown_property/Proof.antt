@@ -1,7 +1,7 @@
 -- `state::is_unknown_property`: kind by kind. Assumes nothing.
-use mathlib.Core.Path.{_∙_}
+use mathlib.Core.Path.{sym, _∙_}
+use mathlib.Core.Bool.{or-false}
 use borrow.Author.Tests.{ne-eqb}
-use Rattle.ticket.proofs.FormTests.{or-none}
 use Rattle.ticket.proofs.Formed.{formed-ids}
 use Rattle.ticket.proofs.state.is_unknown_property.Statement.{statement}
 use Rattle.ticket.proofs.state.is_unknown_property.Tie as tie
@@ -19,7 +19,7 @@ lacks-property-requires c κs =
     (s .pre .table, ids .2)
 
 returns : tie.Need-returns
-returns c = simp (c .before .match .keys1) (c .lacks-either .ensures ∙ or-none _)
+returns c = simp (c .before .match .keys1) (c .lacks-either .ensures ∙ sym (or-false _))
 
 returns-2 : tie.Need-returns-2
 returns-2 c = simp (c .before .match .keys2) (c .lacks-property .ensures)
