@@ -1,7 +1,9 @@
 -- Laws on the definitions: InBytes (numbers in bytes), FactsRead and WordsRead (a body, both ways), Grouped (words kind by kind), ImageRead (an
 -- image that was written), ImageAgain (bytes whose contents are right), RoundTrip, Product (the same at the product's numbers). Cases: computed.
--- For functions: Places (contents, word_at), Deciding and Linking (contents), Climbing (rise_of, is_rising), HasBody (has_body, body), Filling and
--- Filled (reader), Held and ReadCall (read), KindCount, Measuring, Overlaid, PutFact, PutParts and Runs (writer), WriteCall (write). Theorems: what is proved.
+-- For functions: Places (number_at, word_at, fact_size, rise_of, fill_body), Deciding (has_contents), Linking (is_chained, body, put_contents),
+-- Climbing (rise_of, is_rising), HasBody (has_body, body), Filling (count_words, fill_body), Filled (fill_words), ReadCall (read_through, read),
+-- Held (read), KindCount (put_contents), Measuring (image_length, put_contents), Overlaid (put_entry, put_run, put_bodies), PutFact (put_fact),
+-- PutParts (put_contents, put_run, put_bodies), Runs (put_bodies), WriteCall (write_checked, write). Theorems: what is proved.
 pub mod Cases
 pub mod InBytes
 pub mod FactsRead

@@ -1,6 +1,6 @@
--- CutOff: the tickets of bytes, of a list cut off and of records. Runs: one ticket more, lengths, counts. Walked: for the loops; ByteWalk: for
--- run_checked and run_each; RecordWalk: for run_records. Taken, Parts: for list_refusal and the three calls. Relent: for the walks by hand.
--- Singles, Demand3: the theorem on a whole list.
+-- CutOff: the tickets of bytes, of a list cut off and of records. Runs: one ticket more, lengths, counts. Walked: for the loops. ByteWalk: for
+-- run_checked, run_each and run_ticket. RecordWalk: for run_records. Parts: for apply_list, apply_each and apply_records. Relent: for the walks by
+-- hand, run_records and apply_records. Taken, Singles, Demand3: the theorem on a whole list.
 pub mod CutOff
 pub mod Runs
 pub mod Walked

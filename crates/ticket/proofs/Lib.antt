@@ -1,5 +1,6 @@
--- FormTests: tests made in turn and the bytes of a record, for form, ids and state. Formed: what is known of a ticket past refusal 8.
--- RefusedSteps, AcceptedSteps: the register's step, refused and accepted. Ways: each way through step. Answers: for answer and the calls.
+-- FormTests: tests of a ticket's bytes, for form, ids and has_asked. Formed: what is known of a ticket past refusal 8, for state and step.
+-- RefusedSteps, AcceptedSteps: the register's step, refused and accepted, for Ways and the calls. Ways: each way through step. Answers: for the
+-- calls. CallTheorems: demands 1 and 2 about the call itself.
 pub mod FormTests
 pub mod Formed
 pub mod RefusedSteps
