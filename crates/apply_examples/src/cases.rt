@@ -1,9 +1,9 @@
 // The cases, one a line, each on a table of its own.
-use crate::text::STEP;
-use crate::text::find_byte;
-use crate::text::has_database;
-use crate::text::ticket_at;
-use crate::text::words_of;
+use crate::line::STEP;
+use crate::line::find_byte;
+use crate::line::has_database;
+use crate::line::ticket_at;
+use crate::line::words_of;
 use libc::STDOUT_FILENO;
 use table::MOST;
 use table::Word;

@@ -3,7 +3,7 @@
 // fresh table or D for the database of Figs. 1 and 2, whose tickets are those of the first line; a number after it is how many words the
 // table has, 2,048 if there is none.
 mod cases;
-mod text;
+mod line;
 
 use cases::run_cases;
 use libc::STDIN_FILENO;

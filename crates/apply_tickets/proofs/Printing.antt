@@ -12,7 +12,8 @@ use Rattle.ticket.specs.Answered.{Answered}
 use Rattle.ticket.specs.declared.Applied.{Applied}
 use Rattle.list.proofs.Runs.{more-words, run-words}
 use Rattle.list.proofs.CutOff.{cut-from, cut-end}
-use Rattle.apply_tickets.specs.Text.{Line, Lines, Puts, Printed}
+use Rattle.text.specs.Text.{Puts}
+use Rattle.apply_tickets.specs.Text.{Line, Lines, Printed}
 
 line-same : {x y z u v w : ℕ} (text : List ℕ) → x ≡ u → y ≡ v → z ≡ w → Line x y z text → Line u v w text
 line-same {x} {y} {z} {u} {v} {w} text a b c l = subst (λ n. Line n v w text) a (subst (λ n. Line x n w text) b (subst (λ n. Line x y n text) c l))
@@ -55,8 +56,8 @@ module _ (start : List ℕ) (all : List (List ℕ)) where
     printing-table t = subst (Table product) (sym (q .words)) (run-table product product-sound (q .before) start t)
 
   pub printing-more : {t : List ℕ} {left : List (List ℕ)} {at r : ℕ} {w v out new : List ℕ} {a : Applied} → Printing start all (t ∷ left) at w out → Answered a v (step product w t)
-      → Puts (Line (a .answer) (a .added) (a .removed)) 18 at r out new → Printing start all left r v new
-  printing-more {t} {left} {at} {r} {w} {v} {out} {new} {a} q h p =
+      → (r ≤ at + 18) × Puts (Line (a .answer) (a .added) (a .removed)) at r out new → Printing start all left r v new
+  printing-more {t} {left} {at} {r} {w} {v} {out} {new} {a} q h (short, p) =
       let s : Answer = step product (run product start (q .before) .table) t in
       let same : step product w t ≡ s = ap (λ u. step product u t) (q .words) in
       let line : Line (s .number) (s .added) (s .removed) (p .text) =
@@ -66,7 +67,7 @@ module _ (start : List ℕ) (all : List (List ℕ)) where
         tickets = q .tickets ∙ sym (append-assoc (q .before) (t ∷ []) left);
         words = h .words ∙ (ap (λ e. e .table) same ∙ sym (more-words product (q .before) t start));
         lines = subst (Lines start (q .before ++ (t ∷ []))) (sym (p .there)) (lines-more (q .before) start t (take at out) (p .text) (q .lines) line);
-        short = omega (arith, p .short, q .short, length-append (q .before) (t ∷ []));
+        short = omega (arith, short, q .short, length-append (q .before) (t ∷ []));
       }
 
   pub printing-done : {at : ℕ} {w out : List ℕ} → Printing start all [] at w out → at ≤ length out → Printed start all at w out
@@ -92,5 +93,5 @@ module _ (start bytes : List ℕ) {i at : ℕ} {w out : List ℕ} (q : PrintingF
     pub printing-line : 18 * length (cut recordLength bytes) ≤ length out → at + 18 ≤ length out
     printing-line room = omega (arith, printing-room start (cut recordLength bytes) next room)
 
-    pub printing-on : {r : ℕ} {v new : List ℕ} {a : Applied} → Answered a v (step product w (take (e - i) (drop i bytes))) → Puts (Line (a .answer) (a .added) (a .removed)) 18 at r out new → PrintingFrom start bytes e r v new
+    pub printing-on : {r : ℕ} {v new : List ℕ} {a : Applied} → Answered a v (step product w (take (e - i) (drop i bytes))) → (r ≤ at + 18) × Puts (Line (a .answer) (a .added) (a .removed)) at r out new → PrintingFrom start bytes e r v new
     printing-on = printing-more start (cut recordLength bytes) next

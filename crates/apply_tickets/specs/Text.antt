@@ -1,15 +1,11 @@
 -- What program one prints for a chunk of bytes: a line for each ticket, run in turn.
-use Prim.Native.Nat.{ℕ, _+_, _≤_}
+use Prim.Native.Nat.{ℕ, _≤_}
 use mathlib.Core.Path.{_≡_}
 use mathlib.Core.List.{List, [], _∷_, _++_}
 use lib.ListN.{length, take}
 use Rattle.rdfs.specs.Numbers.{product}
 use Rattle.rdfs.specs.Register.{step, run}
-use Rattle.io.specs.Digits.{digits, Fewest}
-
--- A number in decimal, with no zero in front, and a byte after it.
-abbrev pub Number : ℕ → ℕ → List ℕ → Type 0
-Number n after text = (k : ℕ) × Fewest 10 1 n k × (text ≡ digits 10 k n ++ (after ∷ []))
+use Rattle.text.specs.Text.{Number}
 
 -- Three numbers with one blank between, then a newline.
 abbrev pub Line : ℕ → ℕ → ℕ → List ℕ → Type 0
@@ -20,14 +16,6 @@ abbrev pub Lines : List ℕ → List (List ℕ) → List ℕ → Type 0
 Lines w [] text = text ≡ []
 Lines w (t ∷ l) text =
     (first rest : List ℕ) × Line (step product w t .number) (step product w t .added) (step product w t .removed) first × Lines (step product w t .table) l rest × (text ≡ first ++ rest)
-
--- Such a text, of at most `most` bytes, stands in a buffer from place `at` on and up to r; what stood before it is there still.
-pub record Puts (Text : List ℕ → Type 0) (most at r : ℕ) (before after : List ℕ) : Type 0 where
-  pub text : List ℕ
-  pub is : Text text
-  pub short : r ≤ at + most
-  pub there : take r after ≡ take at before ++ text
-  pub end : r ≡ at + length text
 
 -- The lines of the tickets l stand at the start of a buffer, up to r, and the table has the register's words.
 pub record Printed (w : List ℕ) (l : List (List ℕ)) (r : ℕ) (table out : List ℕ) : Type 0 where

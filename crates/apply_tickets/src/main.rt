@@ -1,16 +1,15 @@
 // Program one: runs tickets, raw bytes from standard input, on a fresh table of 2,048 words. For each it prints answer, added and removed on a
 // line; 1 to 4 bytes left over are a ticket of that length. Last it prints the count of facts. Input may be of any length.
 mod lines;
-mod text;
 
 ghost use Rattle.rdfs.specs.Numbers.{product};
 ghost use Rattle.rdfs.specs.Register.{Table};
 use libc::STDIN_FILENO;
 use libc::STDOUT_FILENO;
+use lines::put_count;
 use lines::put_lines;
 use table::MOST;
 use table::Word;
-use table::count_facts;
 use table::fresh;
 
 // How many bytes are read at once: whole tickets, whose lines fit a large buffer.
@@ -45,7 +44,7 @@ fn main() {
     let mut table = [zero; MOST];
     fresh(&mut table);
     run_input(&mut table);
-    let n = count_facts(&table);
-    io::print_decimal(STDOUT_FILENO, n as u64);
-    io::write_all(STDOUT_FILENO, b"\n");
+    let mut out = io::buffer();
+    let k = put_count(&table, &mut out);
+    io::write_all(STDOUT_FILENO, &out[..k]);
 }

@@ -2,8 +2,7 @@
 // refused image it prints nothing.
 ghost use Prim.Native.Nat.{_≤_};
 use consistency::check;
-use image::FIRST_BODY;
-use image::LARGEST_FACT;
+use image::LONGEST;
 use image::read;
 use libc::STDIN_FILENO;
 use libc::STDOUT_FILENO;
@@ -13,8 +12,6 @@ use table::RESOURCE;
 use table::Word;
 use table::word_of;
 
-// No image of a table is longer.
-const LONGEST: usize = FIRST_BODY + LARGEST_FACT * MOST;
 // How often the table is checked.
 const ROUNDS: u64 = 5000;
 

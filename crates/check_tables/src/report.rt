@@ -7,36 +7,22 @@ use consistency::first_broken;
 use libc::STDOUT_FILENO;
 use table::Word;
 use table::word_of;
-ghost use Prim.Native.Nat.{_+_, _≤_, _<_};
+use text::digit_of;
+ghost use Prim.Native.Nat.{_+_, _≤_};
 ghost use lib.ListN.{length};
 
 // The words of a table written as text.
 const WORDS: usize = 16;
-
-// The value of a hexadecimal digit up to A; 0 for another byte.
-fn digit_of(x: u8) -> Word
-    ensures { λ r. ⌜ r < 16 ⌝ }
-{
-    if x == 65 {
-        return 10;
-    }
-    if 48 <= x {
-        if x <= 57 {
-            return (x - 48) as Word;
-        }
-    }
-    0
-}
 
 // The word of the fact whose kind and ids stand as four digits from place i on.
 fn fact_at(text: &[u8], i: usize) -> Word
     requires { ⌜ i + 4 ≤ length (now text) ⌝ }
 {
     word_of(
-        digit_of(text[i]),
-        digit_of(text[i + 1]),
-        digit_of(text[i + 2]),
-        digit_of(text[i + 3]),
+        digit_of(text[i]) as Word,
+        digit_of(text[i + 1]) as Word,
+        digit_of(text[i + 2]) as Word,
+        digit_of(text[i + 3]) as Word,
     )
 }
 

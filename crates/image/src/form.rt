@@ -2,6 +2,7 @@
 ghost use mathlib.Core.Path.{_≡_};
 ghost use Prim.Native.Nat.{_≤_};
 ghost use Rattle.image.specs.Form.{form, factSize, largestFact, entrySize, entryAt, firstBody};
+use table::MOST;
 use table::Word;
 use table::arity_of;
 
@@ -25,6 +26,8 @@ pub const ENTRY_SIZE: usize = 6;
 pub const FIRST_BODY: usize = 62;
 // The most bytes of a fact in a body.
 pub const LARGEST_FACT: usize = 3;
+// No image of a table is longer.
+pub const LONGEST: usize = FIRST_BODY + LARGEST_FACT * MOST;
 
 // The numbers that the definitions take as parameters, and those that follow from them.
 pub struct Sizes {

@@ -24,7 +24,7 @@ use contents::count_at;
 use contents::has_contents;
 use contents::start_at;
 pub use form::FIRST_BODY;
-pub use form::LARGEST_FACT;
+pub use form::LONGEST;
 use form::fact_size;
 use reader::MALFORMED;
 use reader::count_words;

@@ -1,6 +1,8 @@
 -- `main`: a fresh table is consistent. Assumes nothing.
 use Prim.Native.Nat.{ℕ}
+use mathlib.Core.Path.{sym}
 use lib.ListN.{replicate, length-replicate}
+use lib.Seq.{length-take-le}
 use Rattle.apply_tickets.proofs.Chunk.{started-table}
 use borrow.Author.Needs.{needs}
 use Rattle.apply_tickets.proofs.main.Statement.{statement}
@@ -18,17 +20,25 @@ slice-aggregate-run-input c = search needs
 run-input-requires : tie.Need-run-input-requires
 run-input-requires c κs = started-table (replicate 2048 0) (length-replicate {A = ℕ} 2048 0) (c .before .before .fresh .ensures .1)
 
-slice-aggregate-count-facts : tie.Need-slice-aggregate-count-facts
-slice-aggregate-count-facts c = search needs
+buffer-requires : tie.Need-buffer-requires
+buffer-requires c κs = search needs
 
-count-facts-requires : tie.Need-count-facts-requires
-count-facts-requires c κs = search needs
+slice-aggregate-put-count : tie.Need-slice-aggregate-put-count
+slice-aggregate-put-count c = search needs
 
-print-decimal-requires : tie.Need-print-decimal-requires
-print-decimal-requires c κs = search needs
+slice-aggregate-put-count-2 : tie.Need-slice-aggregate-put-count-2
+slice-aggregate-put-count-2 c = search needs
+
+put-count-requires : tie.Need-put-count-requires
+put-count-requires c κs = search needs
+
+array-share-prefix-out : tie.Need-array-share-prefix-out
+array-share-prefix-out c = search needs
 
 slice-aggregate-write-all : tie.Need-slice-aggregate-write-all
-slice-aggregate-write-all c = search needs
+slice-aggregate-write-all c =
+    let put = c .before .before .put-count in
+    sym (length-take-le (put .result) (put .last .1 .0) (put .ensures .0))
 
 write-all-requires : tie.Need-write-all-requires
 write-all-requires c κs = search needs
@@ -44,9 +54,11 @@ main-spec =
     fresh-requires
     slice-aggregate-run-input
     run-input-requires
-    slice-aggregate-count-facts
-    count-facts-requires
-    print-decimal-requires
+    buffer-requires
+    slice-aggregate-put-count
+    slice-aggregate-put-count-2
+    put-count-requires
+    array-share-prefix-out
     slice-aggregate-write-all
     write-all-requires
     returns)

@@ -1,9 +1,9 @@
--- `text::find_byte` meets its contract. The loop keeps e from i up to the length; the measure is what is left of it. Assumes nothing.
+-- `line::find_byte` meets its contract. The loop keeps e from i up to the length; the measure is what is left of it. Assumes nothing.
 use Prim.Native.Nat.{_-_, _≤_}
 use lib.ListN.{length}
 use borrow.Author.Needs.{needs}
-use Rattle.apply_examples.proofs.text.find_byte.Statement.{statement}
-use Rattle.apply_examples.proofs.text.find_byte.Tie as tie
+use Rattle.apply_examples.proofs.line.find_byte.Statement.{statement}
+use Rattle.apply_examples.proofs.line.find_byte.Tie as tie
 
 abbrev Inv-loop : tie.InvT-loop
 Inv-loop text i x e₀ e = (i ≤ e) × (e ≤ length text)

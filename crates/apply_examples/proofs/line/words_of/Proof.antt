@@ -1,9 +1,9 @@
--- `text::words_of` meets its contract. The loop keeps n within the most words; the measure is how many digits are left. Assumes nothing.
+-- `line::words_of` meets its contract. The loop keeps n within the most words; the measure is how many digits are left. Assumes nothing.
 use Prim.Native.Nat.{_-_, _≤_}
 use lib.ListN.{length}
 use borrow.Author.Needs.{needs}
-use Rattle.apply_examples.proofs.text.words_of.Statement.{statement}
-use Rattle.apply_examples.proofs.text.words_of.Tie as tie
+use Rattle.apply_examples.proofs.line.words_of.Statement.{statement}
+use Rattle.apply_examples.proofs.line.words_of.Tie as tie
 
 abbrev Inv-loop : tie.InvT-loop
 Inv-loop start n₀ i₀ n i = n ≤ 2048

@@ -1,8 +1,9 @@
-// Cases as text: the parts of a line, the words of its table, its tickets.
+// A case as a line of text: its parts, the words of its table, its tickets.
 ghost use mathlib.Core.Path.{_≡_};
-ghost use Prim.Native.Nat.{_+_, _≤_, _<_};
+ghost use Prim.Native.Nat.{_+_, _≤_};
 ghost use lib.ListN.{length};
 use table::MOST;
+use text::digit_of;
 use ticket::RECORD;
 
 // A ticket with the blank before it.
@@ -21,23 +22,6 @@ pub fn find_byte(text: &[u8], i: usize, x: u8) -> usize
         e += 1;
     }
     e
-}
-
-// The value of a hexadecimal digit; 0 for another byte.
-fn digit_of(x: u8) -> u8
-    ensures { λ r. ⌜ r < 16 ⌝ }
-{
-    if b'0' <= x {
-        if x <= b'9' {
-            return x - b'0';
-        }
-    }
-    if b'a' <= x {
-        if x <= b'f' {
-            return x - b'a' + 10;
-        }
-    }
-    0
 }
 
 // The byte whose two digits stand from place i on.

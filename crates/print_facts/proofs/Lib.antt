@@ -1,0 +1,2 @@
+-- Gathering: for put_lines.
+pub mod Gathering

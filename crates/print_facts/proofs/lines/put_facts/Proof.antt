@@ -1,0 +1,39 @@
+-- `put_facts`: the table's words are those that reading leaves. Assumes nothing.
+use mathlib.Core.Path.{subst}
+use borrow.Author.Needs.{needs}
+use Rattle.rdfs.specs.Words.{filled}
+use Rattle.print_facts.specs.Text.{Printed}
+use Rattle.print_facts.proofs.lines.put_facts.Statement.{statement}
+use Rattle.print_facts.proofs.lines.put_facts.Tie as tie
+
+slice-aggregate-read : tie.Need-slice-aggregate-read
+slice-aggregate-read c = search needs
+
+read-requires : tie.Need-read-requires
+read-requires c κs = search needs
+
+slice-aggregate-put-lines : tie.Need-slice-aggregate-put-lines
+slice-aggregate-put-lines c = search needs
+
+put-lines-requires : tie.Need-put-lines-requires
+put-lines-requires c κs = search needs
+
+same-length : tie.Need-same-length
+same-length c = search needs
+
+returns : tie.Need-returns
+returns c =
+    let put = c .before .before in
+    let reading = put .before .before .before .before .read in
+    subst (λ t. Printed (filled t) (put .put-lines .result) (put .put-lines .last .1 .0)) (reading .ensures .1) (put .put-lines .ensures)
+
+pub put-facts-spec : {M : Type 1} → statement M
+put-facts-spec =
+    tie.close
+    (tie.spec
+    slice-aggregate-read
+    read-requires
+    slice-aggregate-put-lines
+    put-lines-requires
+    same-length
+    returns)
