@@ -1,2 +1,3 @@
--- Gathering: for put_lines.
+-- Gathering: for put_lines. Read: for put_facts.
 pub mod Gathering
+pub mod Read

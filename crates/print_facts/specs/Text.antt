@@ -1,11 +1,14 @@
 -- What program two prints for an image: a line for each fact.
 use Prim.Native.Nat.{ℕ, _≤_}
 use mathlib.Core.Path.{_≡_}
+use mathlib.Core.Bool.{cond}
 use mathlib.Core.List.{List, [], _∷_, _++_}
+use lib.Dec.{eqb}
 use lib.ListN.{length, take, replicate}
 use Rattle.rdfs.specs.Numbers.{product}
-use Rattle.rdfs.specs.Words.{filled}
-use Rattle.image.specs.Calls.{readWords}
+use Rattle.image.specs.Form.{form}
+use Rattle.image.specs.Reading.{wordsOf}
+use Rattle.image.specs.Calls.{readAnswer}
 use Rattle.text.specs.Text.{Number}
 
 -- The lines of words in turn: each in decimal, then a newline.
@@ -18,6 +21,6 @@ pub record Printed (l : List ℕ) (r : ℕ) (out : List ℕ) : Type 0 where
   pub lines : WordLines l (take r out)
   pub within : r ≤ length out
 
--- The facts of an image, as words: those of a table of the most words, at first zeros, that it is read into. Refused, it leaves the zeros.
+-- The facts of an image, as words; none if reading it into a table of the most words is refused.
 abbrev pub wordsRead : List ℕ → List ℕ
-wordsRead image = filled (readWords (replicate (product .most) 0) image)
+wordsRead image = cond (eqb (readAnswer (replicate (product .most) 0) image) 0) (wordsOf product form image) []
