@@ -1,6 +1,7 @@
 // The facts of an image as lines of text, gathered in a buffer.
 ghost use Prim.Native.Nat.{_+_, _*_, _≤_};
 ghost use lib.ListN.{length};
+ghost use Rattle.rdfs.specs.Numbers.{product};
 ghost use Rattle.rdfs.specs.Words.{filled};
 ghost use Rattle.text.specs.Text.{Number, Puts};
 ghost use Rattle.print_facts.specs.Text.{Printed, wordsRead};
@@ -36,7 +37,7 @@ fn put_lines(t: &[Word], out: &mut [u8]) -> usize
 
 // The lines of an image's facts, at the start of out. A refused image leaves the table without facts, and has no lines.
 pub fn put_facts(image: &[u8], out: &mut [u8]) -> usize
-    requires { ⌜ 11 * 2048 ≤ length (now out) ⌝ }
+    requires { ⌜ 11 * product .most ≤ length (now out) ⌝ }
     ensures { λ r. ⌜ Printed (wordsRead (now (image .entry))) r (now (out .exit)) ⌝ }
 {
     let zero: Word = 0;

@@ -1,5 +1,4 @@
 -- `put_line`: three numbers, one after another. Assumes nothing.
-use native.Mathlib.Omega.{arith}
 use borrow.Author.Needs.{needs}
 use Rattle.apply_tickets.proofs.Put.{line-put}
 use Rattle.apply_tickets.proofs.lines.put_line.Statement.{statement}
