@@ -24,7 +24,7 @@ use table::copy_words;
 // Refusal 12: an image that is malformed.
 pub const MALFORMED: u8 = 12;
 // Refusal 11: an image with more facts than the table has words.
-pub const TOO_MANY: u8 = 11;
+pub const FULL: u8 = 11;
 
 // How many facts the contents give, over all kinds. The sum is wide.
 pub fn count_words(image: &[u8]) -> usize
@@ -49,7 +49,7 @@ pub fn overfull_refusal(image: &[u8]) -> u8
 {
     let rising = is_rising(image);
     if rising {
-        return TOO_MANY;
+        return FULL;
     }
     MALFORMED
 }

@@ -1,5 +1,4 @@
 pub mod Looked
-pub mod ClashParts
 pub mod Alone
 pub mod Joined
 pub mod FactWords

@@ -6,10 +6,9 @@ ghost use lib.Dec.{eqb};
 ghost use Rattle.rdfs.specs.Lists.{all};
 ghost use Rattle.rdfs.specs.Facts.{has};
 ghost use Rattle.rdfs.specs.Clashes.{mixed};
-ghost use Rattle.rdfs.specs.Tickets.{asked};
-ghost use Rattle.rdfs.specs.Lookups.{otherRole, propertyClash, classLinkClash, propertyLinkClash, memberClash, valueClash, lookupClash};
+ghost use Rattle.rdfs.specs.Tickets.{asked, ticketOf};
+ghost use Rattle.rdfs.specs.Lookups.{otherRole, propertyClash, classLinkClash, propertyLinkClash, memberClash, valueClash, lookupClash, endsClash, newPropertyClash, noLink, noValue};
 ghost use Rattle.table.specs.Counted.{Counted, Id, factsOf};
-ghost use Rattle.insertion.specs.ClashParts.{insertion, newPropertyClash, endsClash, noLink, noValue};
 use crate::lookups::closes_cycle;
 use crate::lookups::first_b;
 use crate::lookups::has_other_role;
@@ -65,7 +64,7 @@ fn ends_clash(t: &[Word], n: usize, x: Word, y: Word, z: Word, w: Word) -> bool
 // Pr(a), Dom(a,b) and Rng(a,c) are all there.
 pub fn has_property(t: &[Word], n: usize, a: Word, b: Word, c: Word) -> bool
     requires { ⌜ Counted (now t) n × Id a × Id b × Id c ⌝ }
-    ensures { λ r. ⌜ r ≡ all (has (factsOf (now (t .entry)))) (asked (insertion 2 a b c)) ⌝ }
+    ensures { λ r. ⌜ r ≡ all (has (factsOf (now (t .entry)))) (asked (ticketOf 1 2 a b c)) ⌝ }
 {
     let property = has_fact(t, n, PROPERTY, a, 0, 0);
     if property {
@@ -121,7 +120,7 @@ fn new_property_clashes(t: &[Word], n: usize, a: Word, b: Word, c: Word) -> bool
 // Pr(a) with domain b and range c clashes.
 fn property_clashes(t: &[Word], n: usize, a: Word, b: Word, c: Word) -> bool
     requires { ⌜ Counted (now t) n × Id a × Id b × Id c ⌝ }
-    ensures { λ r. ⌜ r ≡ propertyClash (factsOf (now (t .entry))) (insertion 2 a b c) ⌝ }
+    ensures { λ r. ⌜ r ≡ propertyClash (factsOf (now (t .entry))) (ticketOf 1 2 a b c) ⌝ }
 {
     let there = has_property(t, n, a, b, c);
     if there {
@@ -227,7 +226,7 @@ fn value_clashes(t: &[Word], n: usize, a: Word, b: Word, c: Word) -> bool
 // table and the asked facts. A class, an individual or a literal clashes if it has another role.
 pub fn clashes(t: &[Word], n: usize, k: Word, a: Word, b: Word, c: Word) -> bool
     requires { ⌜ Counted (now t) n × Id a × Id b × Id c ⌝ }
-    ensures { λ r. ⌜ r ≡ lookupClash (factsOf (now (t .entry))) (insertion k a b c) ⌝ }
+    ensures { λ r. ⌜ r ≡ lookupClash (factsOf (now (t .entry))) (ticketOf 1 k a b c) ⌝ }
 {
     match k {
         PROPERTY => property_clashes(t, n, a, b, c),

@@ -9,12 +9,12 @@ use Rattle.rdfs.specs.Lists.{_∈_, here, there}
 use Rattle.rdfs.specs.Facts.{Fact, cl, pr, ind, lit, csub, psub, dom, rng, ci, pi, kind, first, second, third, graph}
 use Rattle.rdfs.specs.Consistency.{Consistent}
 use Rattle.rdfs.specs.Insertion.{addAll}
-use Rattle.rdfs.specs.Tickets.{Ticket, asked}
+use Rattle.rdfs.specs.Tickets.{Ticket, asked, ticketOf}
 use Rattle.rdfs.specs.Orders.{Uses}
 use Rattle.rdfs.proofs.Lists.{in-cons, in-one}
 use Rattle.rdfs.proofs.Closure.{in-addAll, addAll-keeps, addAll-has}
 use Rattle.rdfs.proofs.Seeds.{Seeds}
-use Rattle.rdfs.proofs.TicketTests.{by-kind, ticketOf}
+use Rattle.rdfs.proofs.TicketTests.{by-kind}
 
 -- what a list of asked facts must meet
 record Fits (K new : List Fact) : Type 0 where

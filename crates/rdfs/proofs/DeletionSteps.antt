@@ -16,7 +16,7 @@ use Rattle.rdfs.specs.Words.{word, filled, facts, words, padded}
 use Rattle.rdfs.specs.Clashes.{clashes}
 use Rattle.rdfs.specs.Insertion.{insertion}
 use Rattle.rdfs.specs.Deletion.{deletion}
-use Rattle.rdfs.specs.Tickets.{Ticket, decoded, inserts, deletes, named, asked, guarded}
+use Rattle.rdfs.specs.Tickets.{Ticket, decoded, inserts, deletes, named, asked, guarded, ticketOf}
 use Rattle.rdfs.specs.Register.{step, Table}
 use Rattle.rdfs.specs.Promises.{Formed, unchanged}
 use Rattle.rdfs.proofs.Tests.{and-both, both-and, either-or}
@@ -29,7 +29,7 @@ use Rattle.rdfs.proofs.Counts.{besides-none}
 use Rattle.rdfs.proofs.Gone.{largest-same}
 use Rattle.rdfs.proofs.DeletionLargest.{Deletable, deletion-largest}
 use Rattle.rdfs.proofs.DeletionLaws.{deletion-part, deletion-absent}
-use Rattle.rdfs.proofs.TicketTests.{by-kind, ticketOf, known-kind}
+use Rattle.rdfs.proofs.TicketTests.{by-kind, known-kind}
 use Rattle.rdfs.proofs.Refusals.{new, pass}
 use Rattle.rdfs.proofs.Steps.{table-sane, table-allowed, step-number, accepted-leaves, left-table}
 use Rattle.rdfs.proofs.Within.{same-facts}

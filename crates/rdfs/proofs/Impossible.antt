@@ -5,13 +5,14 @@ use mathlib.Core.Logic.{inl, inr}
 use mathlib.Core.List.{[], _∷_}
 use Rattle.rdfs.specs.Facts.{Graph, cl, pr, ind, lit, csub, psub, dom, rng, ci, pi, graph, _⊑_}
 use Rattle.rdfs.specs.Consistency.{Consistent}
+use Rattle.rdfs.specs.Tickets.{propertyFacts}
 use Rattle.rdfs.proofs.Between.{class-strict, property-strict, Strict}
 use Rattle.rdfs.proofs.Hierarchy.{Le, le-trans, order-back}
 use Rattle.rdfs.proofs.OneRole.{RoleName, class, property, individual, literal, is, roleKind, one-role, OtherRole}
 use Rattle.rdfs.proofs.Schema.{schema-of, root-highest, Beside, differ-le, beside-mark, beside-le, le-grows}
 use Rattle.rdfs.proofs.Full.{values-typed}
 use Rattle.rdfs.proofs.Possible.{more-held, one-held}
-use Rattle.rdfs.proofs.LookupTests.{propertyFacts, PropertyClash, ClassLinkClash, MemberClash, ValueClash, PropertyLinkClash}
+use Rattle.rdfs.proofs.LookupTests.{PropertyClash, ClassLinkClash, MemberClash, ValueClash, PropertyLinkClash}
 
 -- G is the table's graph, H the other.
 module _ (G H : Graph) (g : Consistent G) (c : Consistent H) (sub : _⊑_ G H) where

@@ -9,16 +9,16 @@ use lib.Dec.{T}
 use Rattle.rdfs.specs.Lists.{_∈_, here, there}
 use Rattle.rdfs.specs.Facts.{Fact, Graph, pr, csub, psub, rng, ci, pi, graph, _⊑_}
 use Rattle.rdfs.specs.Consistency.{Consistent}
-use Rattle.rdfs.specs.Tickets.{Ticket, asked}
+use Rattle.rdfs.specs.Tickets.{Ticket, asked, propertyFacts, ticketOf}
 use Rattle.rdfs.specs.Lookups.{otherRole, domainOf, rangeOf, propertyClash, classLinkClash, propertyLinkClash, memberClash, valueClash, lookupClash}
 use Rattle.rdfs.specs.Orders.{Uses}
 use Rattle.rdfs.specs.Promises.{Judged, Possible}
 use Rattle.rdfs.proofs.Tests.{Tests, differ, tests-decides}
 use Rattle.rdfs.proofs.Facts.{in-list, tests-all-has}
-use Rattle.rdfs.proofs.TicketTests.{by-kind, given-ids, ticketOf}
+use Rattle.rdfs.proofs.TicketTests.{by-kind, given-ids}
 use Rattle.rdfs.proofs.OneRole.{RoleName, class, individual, literal, is, roleKind, tests-other-role}
 use Rattle.rdfs.proofs.LookedUp.{domain-in, range-in}
-use Rattle.rdfs.proofs.LookupTests.{propertyFacts, tests-property-clash, tests-class-link-clash, tests-property-link-clash, tests-member-clash, tests-value-clash}
+use Rattle.rdfs.proofs.LookupTests.{tests-property-clash, tests-class-link-clash, tests-property-link-clash, tests-member-clash, tests-value-clash}
 use Rattle.rdfs.proofs.Possible.{role-possible, member-possible, value-possible, property-possible}
 use Rattle.rdfs.proofs.PossibleLinks.{class-link-possible, property-link-possible}
 use Rattle.rdfs.proofs.Impossible.{role-impossible, member-impossible, value-impossible, property-impossible, class-link-impossible, property-link-impossible}

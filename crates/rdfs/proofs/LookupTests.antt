@@ -2,20 +2,16 @@
 use Prim.Native.Nat.{ℕ}
 use mathlib.Core.Path.{_≡_}
 use mathlib.Core.Logic.{_⊎_}
-use mathlib.Core.List.{List, [], _∷_}
-use Rattle.rdfs.specs.Facts.{Fact, Graph, pr, csub, psub, dom, rng, graph, _⊑_}
+use mathlib.Core.List.{List}
+use Rattle.rdfs.specs.Facts.{Fact, Graph, csub, psub, rng, graph, _⊑_}
 use Rattle.rdfs.specs.Clashes.{mixed}
 use Rattle.rdfs.specs.Lookups.{domainOf, rangeOf, backwards, cycleOfTwo, propertyClash, classLinkClash, propertyLinkClash, memberClash, valueClash}
+use Rattle.rdfs.specs.Tickets.{propertyFacts, ticketOf}
 use Rattle.rdfs.proofs.Tests.{Tests, tests-and, tests-or, tests-not, tests-eq, tests-cond}
-use Rattle.rdfs.proofs.TicketTests.{ticketOf}
 use Rattle.rdfs.proofs.Facts.{tests-has, tests-all-has}
 use Rattle.rdfs.proofs.Between.{tests-under}
 use Rattle.rdfs.proofs.Hierarchy.{Le}
 use Rattle.rdfs.proofs.OneRole.{OtherRole, tests-other-role}
-
--- Pr(a), Dom(a,b), Rng(a,c).
-abbrev pub propertyFacts : ℕ → ℕ → ℕ → List Fact
-propertyFacts a b c = pr a ∷ dom a b ∷ rng a c ∷ []
 
 -- a has a role, or the domain b or the range c cannot be a class beside it.
 abbrev pub NewPropertyClash : Graph → ℕ → ℕ → ℕ → Type 0

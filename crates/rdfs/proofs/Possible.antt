@@ -6,6 +6,7 @@ use mathlib.Core.List.{List, [], _∷_}
 use Rattle.rdfs.specs.Facts.{Fact, Graph, pr, dom, rng, ci, pi, graph, _⊑_}
 use Rattle.rdfs.specs.Consistency.{Consistent}
 use Rattle.rdfs.specs.Promises.{Possible}
+use Rattle.rdfs.specs.Tickets.{propertyFacts}
 use Rattle.rdfs.proofs.Tests.{differ}
 use Rattle.rdfs.proofs.Lists.{in-cons, none-in}
 use Rattle.rdfs.proofs.OneRole.{RoleName, class, property, individual, literal, is, roleKind, role-some, OtherRole}
@@ -13,7 +14,7 @@ use Rattle.rdfs.proofs.Schema.{Schema, schema-of}
 use Rattle.rdfs.proofs.Full.{Typed, values-typed, Full, full-consistent, full-holds}
 use Rattle.rdfs.proofs.MoreRoles.{More, more-holds, Apart, Fits, more-schema, typed-more}
 use Rattle.rdfs.proofs.Wanted.{NoRole, Want, WantTwo, wants-first, wants-second, none-apart, want-apart, two-fit}
-use Rattle.rdfs.proofs.LookupTests.{propertyFacts, NewPropertyClash, PropertyClash, MemberClash, ValueClash}
+use Rattle.rdfs.proofs.LookupTests.{NewPropertyClash, PropertyClash, MemberClash, ValueClash}
 
 pub none-held : (H : Graph) → _⊑_ (graph []) H
 none-held H f m = absurd (none-in m)

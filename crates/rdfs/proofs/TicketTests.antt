@@ -8,7 +8,7 @@ use lib.Dec.{T, eqb, ltb, not-T, nltb→le}
 use Rattle.rdfs.specs.Numbers.{ticketKinds}
 use Rattle.rdfs.specs.Lists.{_∈_, member}
 use Rattle.rdfs.specs.Facts.{Fact, cl, pr, ind, lit, csub, psub, dom, rng, ci, pi, has}
-use Rattle.rdfs.specs.Tickets.{Ticket, inserts, deletes, makesProperty, asked, badOperation, badKind, badIds, unusedNotZero, markMisplaced, aboveHighest, unknownProperty}
+use Rattle.rdfs.specs.Tickets.{Ticket, inserts, deletes, makesProperty, asked, badOperation, badKind, badIds, unusedNotZero, markMisplaced, aboveHighest, unknownProperty, ticketOf}
 use Rattle.rdfs.specs.Orders.{Uses}
 use Rattle.rdfs.proofs.Tests.{Tests, tests-and, tests-or, tests-not, tests-eq, tests-self, and-both, either-or, or-either}
 use Rattle.rdfs.proofs.Lists.{in-cons, in-one}
@@ -89,10 +89,6 @@ module _ (top : ℕ) (t : Ticket) (n : T (badIds top t) → ⊥) where
         b-mark = λ e. m′ .0 (tests-eq (t .b) 1 .complete e);
         c-mark = λ k e. m′ .1 (c .complete (e, k));
       }
-
--- A ticket by its fields.
-abbrev pub ticketOf : ℕ → ℕ → ℕ → ℕ → ℕ → Ticket
-ticketOf o k a b c = record { operation = o; kind = k; a = a; b = b; c = c }
 
 -- The facts that an insertion asks for have ids up to the highest and the mark in its place.
 pub asked-allowed : (top : ℕ) (t : Ticket) → T (inserts t) → t .kind ∈ ticketKinds → (T (badIds top t) → ⊥) → All (Allowed top) (asked t)

@@ -13,7 +13,7 @@ use Rattle.rdfs.specs.Facts.{Fact, pr, psub, pi, graph}
 use Rattle.rdfs.specs.Consistency.{Consistent}
 use Rattle.rdfs.specs.Words.{word, filled, facts, words, padded}
 use Rattle.rdfs.specs.Clashes.{clashes}
-use Rattle.rdfs.specs.Tickets.{decoded, inserts, asked}
+use Rattle.rdfs.specs.Tickets.{decoded, inserts, asked, ticketOf}
 use Rattle.rdfs.specs.Register.{Answer, step, Table}
 use Rattle.rdfs.specs.Orders.{Uses}
 use Rattle.rdfs.specs.Promises.{Formed, unchanged}
@@ -25,7 +25,7 @@ use Rattle.rdfs.proofs.LaidOut.{laid-words, laid-again, laid-fits}
 use Rattle.rdfs.proofs.Counts.{besides-none}
 use Rattle.rdfs.proofs.InsertionSmallest.{insertion-in, insertion-keeps, insertion-clash}
 use Rattle.rdfs.proofs.Closure.{addAll-keeps}
-use Rattle.rdfs.proofs.TicketTests.{ticketOf, known-kind, known-uses}
+use Rattle.rdfs.proofs.TicketTests.{known-kind, known-uses}
 use Rattle.rdfs.proofs.Refusals.{new, pass}
 use Rattle.rdfs.proofs.Steps.{table-sane, table-allowed, step-number, accepted-leaves}
 use Rattle.rdfs.proofs.InsertionSteps.{new-is, ask-allowed, accepted-smallest}

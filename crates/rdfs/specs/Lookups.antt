@@ -33,27 +33,37 @@ backwards K x y = not (eqb x y) && has K (csub y x)
 abbrev pub cycleOfTwo : List Fact → ℕ → ℕ → ℕ → ℕ → Bool
 cycleOfTwo K x y z w = not (eqb x y) && (not (eqb z w) && (under K 5 z y && under K 5 x w))
 
+-- The clash of a property with domain b and range c that are not all there.
+abbrev pub newPropertyClash : List Fact → ℕ → ℕ → ℕ → Bool
+newPropertyClash K a b c = otherRole K 0 a || (otherRole K 1 b || ((not (eqb c 1) && otherRole K 1 c) || (eqb a b || eqb a c)))
+
 abbrev pub propertyClash : List Fact → Ticket → Bool
-propertyClash K t =
-    not (all (has K) (asked t))
-    && (otherRole K 0 (t .a) || (otherRole K 1 (t .b) || ((not (eqb (t .c) 1) && otherRole K 1 (t .c)) || (eqb (t .a) (t .b) || eqb (t .a) (t .c)))))
+propertyClash K t = not (all (has K) (asked t)) && newPropertyClash K (t .a) (t .b) (t .c)
+
+-- CSub(a,b) can't be, whatever else a and b are.
+abbrev pub noLink : List Fact → ℕ → ℕ → Bool
+noLink K a b = eqb a b || (eqb a 0 || has K (csub b a))
 
 abbrev pub classLinkClash : List Fact → ℕ → ℕ → Bool
-classLinkClash K a b = otherRole K 1 a || (otherRole K 1 b || (eqb a b || (eqb a 0 || has K (csub b a))))
+classLinkClash K a b = otherRole K 1 a || (otherRole K 1 b || noLink K a b)
+
+-- The domains x, y and the ranges z, w of a property and one over it clash.
+abbrev pub endsClash : List Fact → ℕ → ℕ → ℕ → ℕ → Bool
+endsClash K x y z w = mixed z w || (backwards K x y || (backwards K z w || cycleOfTwo K x y z w))
 
 abbrev pub propertyLinkClash : List Fact → ℕ → ℕ → Bool
 propertyLinkClash K a b =
-    let da : ℕ = domainOf K a in
-    let db : ℕ = domainOf K b in
-    let ra : ℕ = rangeOf K a in
-    let rb : ℕ = rangeOf K b in
-    eqb a b || (has K (psub b a) || (mixed ra rb || (backwards K da db || (backwards K ra rb || cycleOfTwo K da db ra rb))))
+    eqb a b || (has K (psub b a) || endsClash K (domainOf K a) (domainOf K b) (rangeOf K a) (rangeOf K b))
 
 abbrev pub memberClash : List Fact → ℕ → ℕ → Bool
 memberClash K a b = otherRole K 3 a || (otherRole K 1 b || eqb a b)
 
+-- b can't be a value of a by property c.
+abbrev pub noValue : List Fact → ℕ → ℕ → ℕ → Bool
+noValue K a b c = cond (has K (rng c 1)) (otherRole K 4 b || eqb a b) (otherRole K 3 b)
+
 abbrev pub valueClash : List Fact → ℕ → ℕ → ℕ → Bool
-valueClash K a b c = otherRole K 3 a || cond (has K (rng c 1)) (otherRole K 4 b || eqb a b) (otherRole K 3 b)
+valueClash K a b c = otherRole K 3 a || noValue K a b c
 
 unfoldable pub lookupClash : List Fact → Ticket → Bool
 lookupClash K t =

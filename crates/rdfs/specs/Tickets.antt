@@ -18,8 +18,12 @@ pub record Ticket : Type 0 where
   pub b : ℕ
   pub c : ℕ
 
+-- A ticket by its fields, and of bytes.
+abbrev pub ticketOf : ℕ → ℕ → ℕ → ℕ → ℕ → Ticket
+ticketOf o k a b c = record { operation = o; kind = k; a = a; b = b; c = c }
+
 abbrev pub decoded : List ℕ → Ticket
-decoded bytes = record { operation = getD bytes 0 0; kind = getD bytes 1 0; a = getD bytes 2 0; b = getD bytes 3 0; c = getD bytes 4 0 }
+decoded bytes = ticketOf (getD bytes 0 0) (getD bytes 1 0) (getD bytes 2 0) (getD bytes 3 0) (getD bytes 4 0)
 
 abbrev pub inserts : Ticket → Bool
 inserts t = eqb (t .operation) 1
@@ -34,9 +38,13 @@ makesProperty t = inserts t && eqb (t .kind) 2
 abbrev pub named : Ticket → Fact
 named t = made (t .kind) (t .a) (t .b) (t .c)
 
--- The asked facts of an insertion: for a property, b is its domain and c its range.
+-- A property with domain b and range c.
+abbrev pub propertyFacts : ℕ → ℕ → ℕ → List Fact
+propertyFacts a b c = pr a ∷ dom a b ∷ rng a c ∷ []
+
+-- The asked facts of an insertion.
 abbrev pub asked : Ticket → List Fact
-asked t = cond (eqb (t .kind) 2) (pr (t .a) ∷ dom (t .a) (t .b) ∷ rng (t .a) (t .c) ∷ []) (named t ∷ [])
+asked t = cond (eqb (t .kind) 2) (propertyFacts (t .a) (t .b) (t .c)) (named t ∷ [])
 
 -- The graph that an accepted ticket leaves.
 abbrev pub outcome : ℕ → List Fact → Ticket → List Fact

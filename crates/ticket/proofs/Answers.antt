@@ -8,8 +8,9 @@ use lib.ListN.{length}
 use Rattle.rdfs.specs.Numbers.{product}
 use Rattle.rdfs.specs.Words.{filled}
 use Rattle.rdfs.specs.Register.{Answer, Table}
+use Rattle.rdfs.specs.Tickets.{ticketOf}
 use Rattle.rdfs.proofs.TicketTests.{known-operation}
-use Rattle.ticket.specs.Form.{sense, bytesOf, recordOf, ticketOf, formRefusal, Ready}
+use Rattle.ticket.specs.Form.{sense, bytesOf, recordOf, formRefusal, Ready}
 use Rattle.ticket.specs.Answered.{Answered, Valued, Stepped, refusedWith}
 use Rattle.ticket.specs.declared.Applied.{Applied}
 use Rattle.ticket.specs.declared.form.Ticket.{Ticket}

@@ -8,8 +8,7 @@ use lib.Dec.{eqb, ltb}
 use lib.ListN.{length, getD}
 use Rattle.rdfs.specs.Lists.{all}
 use Rattle.rdfs.specs.Facts.{Fact, pr, dom, rng, made, has}
-use Rattle.rdfs.specs.Tickets.{asked}
-use Rattle.ticket.specs.Form.{ticketOf}
+use Rattle.rdfs.specs.Tickets.{asked, ticketOf}
 use borrow.Author.Tests.{lt-ltb, le-ltb, eq-eqb, ne-eqb}
 
 -- A byte x, made wide as r and compared with v.

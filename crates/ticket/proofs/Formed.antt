@@ -7,14 +7,14 @@ use native.Mathlib.Omega.{arith}
 use native.Mathlib.Decide.{ℕ-discrete}
 use lib.Dec.{T, ltb, ltb→lt, lt→ltb}
 use Rattle.rdfs.specs.Numbers.{product, arity}
-use Rattle.rdfs.specs.Tickets.{Ticket, makesProperty, used, badOperation, badKind, badIds, guarded, unusedNotZero, markMisplaced, aboveHighest}
+use Rattle.rdfs.specs.Tickets.{Ticket, makesProperty, used, badOperation, badKind, badIds, guarded, unusedNotZero, markMisplaced, aboveHighest, ticketOf}
 use Rattle.rdfs.specs.Register.{orElse}
 use Rattle.rdfs.proofs.Tests.{Tests, tests-and, tests-or, tests-not, tests-eq, either-or}
 use Rattle.rdfs.proofs.TicketTests.{by-kind, known-kind, given-ids}
 use Rattle.rdfs.proofs.Refusals.{passed-link}
 use Rattle.table.specs.Parts.{Shaped}
 use Rattle.table.specs.Counted.{Id}
-use Rattle.ticket.specs.Form.{ticketOf, formRefusal}
+use Rattle.ticket.specs.Form.{formRefusal}
 
 -- None of refusals 5 to 8.
 pub record Passes (t : Ticket) : Type 0 where

@@ -14,7 +14,7 @@ use Rattle.rdfs.specs.Words.{filled, words, padded}
 use Rattle.rdfs.specs.Clashes.{clashes}
 use Rattle.rdfs.specs.Insertion.{insertion}
 use Rattle.rdfs.specs.Deletion.{deletion}
-use Rattle.rdfs.specs.Tickets.{asked, unknownProperty}
+use Rattle.rdfs.specs.Tickets.{asked, unknownProperty, ticketOf}
 use Rattle.rdfs.specs.Lookups.{lookupClash}
 use Rattle.rdfs.specs.Register.{orElse, tooMany, step}
 use Rattle.rdfs.specs.Promises.{Formed}
@@ -30,7 +30,7 @@ use Rattle.table.proofs.Counted.{counted-first, counted-search}
 use Rattle.insertion.specs.Answers.{Insertable, GrowMeans}
 use Rattle.insertion.specs.declared.put.Grown.{Grown}
 use Rattle.insertion.specs.declared.put.Grown.the-variants.{Facts as Grows, Full}
-use Rattle.ticket.specs.Form.{ticketOf, recordOf, Asked, Ready, Possible}
+use Rattle.ticket.specs.Form.{recordOf, Asked, Ready, Possible}
 use Rattle.ticket.specs.Answered.{Stepped}
 use Rattle.ticket.specs.declared.step.Step.the-variants.{Facts, Refused}
 use Rattle.ticket.proofs.RefusedSteps.{formed-record, looked-clash, unknown-refused, clash-refused, full-refused}

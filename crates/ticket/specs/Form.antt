@@ -28,23 +28,19 @@ bytesOf t = recordOf (t .operation) (t .kind) (t .a) (t .b) (t .c)
 abbrev pub formRefusal : defs.Ticket → ℕ
 formRefusal t = orElse (defs.badOperation t) 5 (orElse (defs.badKind t) 6 (orElse (defs.badIds (product .top) t) 7 (orElse (defs.guarded t) 8 0)))
 
--- The ticket of an operation, a kind and ids.
-abbrev pub ticketOf : ℕ → ℕ → ℕ → ℕ → ℕ → defs.Ticket
-ticketOf o k a b c = record { operation = o; kind = k; a = a; b = b; c = c }
-
 -- A table with n facts, and a ticket past the first eight refusals.
 pub record Asked (t : List ℕ) (n o k a b c : ℕ) : Type 0 where
   pub table : Counted t n
-  pub formed : formRefusal (ticketOf o k a b c) ≡ 0
+  pub formed : formRefusal (defs.ticketOf o k a b c) ≡ 0
 
 -- A consistent table with n facts, and a ticket past the first eight refusals.
 pub record Ready (t : List ℕ) (n o k a b c : ℕ) : Type 0 where
   pub table : Table product t
   pub size : n ≡ length (filled t)
-  pub formed : formRefusal (ticketOf o k a b c) ≡ 0
+  pub formed : formRefusal (defs.ticketOf o k a b c) ≡ 0
 
 -- An insertion past refusal 10.
 pub record Possible (t : List ℕ) (n k a b c : ℕ) : Type 0 where
   pub ready : Ready t n 1 k a b c
-  pub known : defs.unknownProperty (factsOf t) (ticketOf 1 k a b c) ≡ false
-  pub free : lookupClash (factsOf t) (ticketOf 1 k a b c) ≡ false
+  pub known : defs.unknownProperty (factsOf t) (defs.ticketOf 1 k a b c) ≡ false
+  pub free : lookupClash (factsOf t) (defs.ticketOf 1 k a b c) ≡ false

@@ -6,8 +6,8 @@ use denote.Ref.{now}
 use borrow.Author.Tests.{eq-eqb, ne-eqb}
 use borrow.Author.Needs.{needs}
 use Rattle.rdfs.specs.Facts.{Fact}
+use Rattle.rdfs.specs.Lookups.{endsClash}
 use Rattle.table.specs.Counted.{factsOf}
-use Rattle.insertion.specs.ClashParts.{endsClash}
 use Rattle.table.proofs.InTurn.{told, or-first, or-rest}
 use Rattle.insertion.proofs.clash.property_link_clashes.Statement.{statement}
 use Rattle.insertion.proofs.clash.property_link_clashes.Tie as tie
