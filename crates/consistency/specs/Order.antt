@@ -1,6 +1,6 @@
 -- The rules in the paper's order, the first that a graph breaks, and what a visit of some of them answers.
 use Prim.Native.Nat.{ℕ}
-use mathlib.Core.List.{List, [], _∷_, map}
+use mathlib.Core.List.{List, [], _∷_}
 use lib.ListN.{getD}
 use Rattle.rdfs.specs.Facts.{Graph}
 use Rattle.rdfs.specs.Rules.{Rule, Meets, r4, r5, r6, r7, r8, r9, r10, r11, r12, r13, r14, r15, r16, r17, r18, r19, r20, r21, r22, r23, r24, r25, r26, r27, h1, h2, h3, h4}
@@ -40,16 +40,13 @@ ruleOf H2 = h2
 ruleOf H3 = h3
 ruleOf H4 = h4
 
--- Fig. 3's rules 4 to 27 as printed, then H1 to H4, as the code names them.
-abbrev pub namesInOrder : List code.Rule
-namesInOrder =
-    R4 ∷ R5 ∷ R6 ∷ R7 ∷ R8 ∷ R9 ∷ R10 ∷
-    R11 ∷ R12 ∷ R13 ∷ R14 ∷ R15 ∷ R16 ∷ R17 ∷
-    R18 ∷ R19 ∷ R20 ∷ R21 ∷ R22 ∷ R23 ∷ R24 ∷
-    R25 ∷ R26 ∷ R27 ∷ H1 ∷ H2 ∷ H3 ∷ H4 ∷ []
-
+-- Fig. 3's rules 4 to 27 as printed, then H1 to H4.
 abbrev pub rulesInOrder : List Rule
-rulesInOrder = map ruleOf namesInOrder
+rulesInOrder =
+    r4 ∷ r5 ∷ r6 ∷ r7 ∷ r8 ∷ r9 ∷ r10 ∷
+    r11 ∷ r12 ∷ r13 ∷ r14 ∷ r15 ∷ r16 ∷ r17 ∷
+    r18 ∷ r19 ∷ r20 ∷ r21 ∷ r22 ∷ r23 ∷ r24 ∷
+    r25 ∷ r26 ∷ r27 ∷ h1 ∷ h2 ∷ h3 ∷ h4 ∷ []
 
 -- The rule at a place of a list, counted from 0.
 abbrev pub ruleAt : List Rule → ℕ → Rule

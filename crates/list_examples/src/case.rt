@@ -22,41 +22,19 @@ fn print_case(case: &[u8]) {
     fresh(&mut listed);
     fresh(&mut recorded);
     fresh(&mut single);
-    let mut numbers = [UNTOUCHED; 5];
-    let mut recorded_numbers = [UNTOUCHED; 5];
-    let mut single_numbers = [UNTOUCHED; 5];
-    print_list(b"the case", &mut listed, case, &mut numbers);
-    print_records(b"the case", &mut recorded, &mut recorded_numbers);
-    print_each(b"the case", &mut single, case, &mut single_numbers);
-    print_compared(
-        b"by apply_list and by apply_records",
-        &listed,
-        &recorded,
-        &numbers,
-        &recorded_numbers,
-    );
-    print_compared(
-        b"by apply_list and by apply_each",
-        &listed,
-        &single,
-        &numbers,
-        &single_numbers,
-    );
+    print_list(b"the case", &mut listed, case, &mut [UNTOUCHED; 5]);
+    print_records(b"the case", &mut recorded, &mut [UNTOUCHED; 5]);
+    print_each(b"the case", &mut single, case, &mut [UNTOUCHED; 5]);
+    print_compared(b"by apply_list and by apply_records", &listed, &recorded);
+    print_compared(b"by apply_list and by apply_each", &listed, &single);
 }
 
-// A list that all three calls refuse, on one table: it is as found, and so are the answer bytes.
-fn print_refused(
-    name: &[u8],
-    case: &[u8],
-    t: &mut [Word],
-    found: &[Word],
-    answers: &mut [u8],
-    untouched: &[u8],
-) {
+// A list that all three calls refuse, on one table: it is as found. The answer bytes that each prints are those it was lent.
+fn print_refused(name: &[u8], case: &[u8], t: &mut [Word], found: &[Word], answers: &mut [u8]) {
     print_list(name, t, case, answers);
     print_records(name, t, answers);
     print_each(name, t, case, answers);
-    print_compared(b"as found", t, found, answers, untouched);
+    print_compared(b"as found", t, found);
 }
 
 // One answer byte fewer than tickets.
@@ -67,14 +45,7 @@ fn print_short(case: &[u8]) {
     fresh(&mut t);
     fresh(&mut found);
     let mut answers = [UNTOUCHED; 4];
-    print_refused(
-        b"one answer byte short",
-        case,
-        &mut t,
-        &found,
-        &mut answers,
-        &[UNTOUCHED; 4],
-    );
+    print_refused(b"one answer byte short", case, &mut t, &found, &mut answers);
 }
 
 // Three answer bytes more than tickets.
@@ -102,7 +73,7 @@ fn print_more(case: &[u8]) {
 // A table that is refused, with as many answer bytes as tickets.
 fn print_refused_table(name: &[u8], case: &[u8], t: &mut [Word], found: &[Word]) {
     let mut answers = [UNTOUCHED; 5];
-    print_refused(name, case, t, found, &mut answers, &[UNTOUCHED; 5]);
+    print_refused(name, case, t, found, &mut answers);
 }
 
 // Tables that are refused for their size, for their layout, and as not consistent; this comes before the answer bytes that are missing.
@@ -128,7 +99,6 @@ fn print_refused_tables(case: &[u8]) {
         &mut [zero; 8],
         &[zero; 8],
         &mut [],
-        &[],
     );
 }
 

@@ -1,24 +1,7 @@
-// Comparisons of bytes and of words.
+// Two tables compared.
 ghost use mathlib.Core.Path.{_≡_};
 ghost use Rattle.table.specs.Answers.{Decides};
 use table::Word;
-
-// Whether two runs of bytes are the same.
-pub fn is_same(a: &[u8], b: &[u8]) -> bool
-    ensures { λ r. ⌜ Decides r (now (a .entry) ≡ now (b .entry)) ⌝ }
-{
-    if a.len() != b.len() {
-        return false;
-    }
-    let mut i = 0;
-    while i < a.len() {
-        if a[i] != b[i] {
-            return false;
-        }
-        i += 1;
-    }
-    true
-}
 
 // Whether two tables have the same words.
 pub fn has_words_of(a: &[Word], b: &[Word]) -> bool

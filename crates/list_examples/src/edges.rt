@@ -14,17 +14,19 @@ pub fn print_refused_among(tickets: &[u8]) {
     let mut other = [zero; MOST];
     fresh(&mut t);
     fresh(&mut other);
-    let mut numbers = [UNTOUCHED; 9];
-    let mut others = [UNTOUCHED; 9];
-    print_list(b"refused among accepted", &mut t, tickets, &mut numbers);
-    print_each(b"refused among accepted", &mut other, tickets, &mut others);
-    print_compared(
-        b"by apply_list and by apply_each",
-        &t,
-        &other,
-        &numbers,
-        &others,
+    print_list(
+        b"refused among accepted",
+        &mut t,
+        tickets,
+        &mut [UNTOUCHED; 9],
     );
+    print_each(
+        b"refused among accepted",
+        &mut other,
+        tickets,
+        &mut [UNTOUCHED; 9],
+    );
+    print_compared(b"by apply_list and by apply_each", &t, &other);
 }
 
 // A ticket is refused for room, and a later one finds it.

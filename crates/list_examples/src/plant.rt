@@ -53,25 +53,28 @@ pub fn print_late_link(members: &[u8], link: &[u8]) {
     print_member(&t, 21, 3);
 }
 
-// The same tickets in another order, on a table of their own, beside the words and answer bytes of the first order.
-fn print_order(name: &[u8], both: &[u8], tickets: &[u8], t: &[Word], numbers: &[u8]) {
+// The same tickets in another order, on a table of their own, beside the words of the first order.
+fn print_order(name: &[u8], both: &[u8], tickets: &[u8], t: &[Word]) {
     let zero: Word = 0;
     let mut other = [zero; MOST];
     fresh(&mut other);
-    let mut others = [UNTOUCHED; 12];
-    print_list(name, &mut other, tickets, &mut others);
-    print_compared(both, t, &other, numbers, &others);
+    print_list(name, &mut other, tickets, &mut [UNTOUCHED; 12]);
+    print_compared(both, t, &other);
 }
 
-// A list and then the same once more, beside the words and answer bytes that it left the first time.
-fn print_again(tickets: &[u8], t: &[Word], numbers: &[u8]) {
+// A list and then the same once more, beside the words that it left the first time.
+fn print_again(tickets: &[u8], t: &[Word]) {
     let zero: Word = 0;
     let mut other = [zero; MOST];
     fresh(&mut other);
     apply_list(&mut other, tickets, &mut [UNTOUCHED; 12]);
-    let mut others = [UNTOUCHED; 12];
-    print_list(b"plant, the list again", &mut other, tickets, &mut others);
-    print_compared(b"once and again", t, &other, numbers, &others);
+    print_list(
+        b"plant, the list again",
+        &mut other,
+        tickets,
+        &mut [UNTOUCHED; 12],
+    );
+    print_compared(b"once and again", t, &other);
 }
 
 // Classes, properties, members, values and links: a list of twelve tickets in three orders. With each property before its uses the words are the
@@ -80,21 +83,18 @@ pub fn print_orders(last: &[u8], first: &[u8], early: &[u8]) {
     let zero: Word = 0;
     let mut t = [zero; MOST];
     fresh(&mut t);
-    let mut numbers = [UNTOUCHED; 12];
-    print_list(b"plant, links last", &mut t, last, &mut numbers);
+    print_list(b"plant, links last", &mut t, last, &mut [UNTOUCHED; 12]);
     print_order(
         b"plant, links first",
         b"links last and links first",
         first,
         &t,
-        &numbers,
     );
     print_order(
         b"plant, a value before its property",
         b"links last and a value before its property",
         early,
         &t,
-        &numbers,
     );
-    print_again(last, &t, &numbers);
+    print_again(last, &t);
 }

@@ -2,7 +2,6 @@
 ghost use mathlib.Core.Path.{_≡_};
 ghost use Rattle.list_examples.specs.Case.{factsIn};
 use crate::compare::has_words_of;
-use crate::compare::is_same;
 use libc::STDOUT_FILENO;
 use list::Listed;
 use table::Word;
@@ -63,11 +62,9 @@ pub fn print_listed(listed: Listed, t: &[Word], answers: &[u8]) {
     print_text(b"\n");
 }
 
-// Whether two tables have the same words, and two runs of answer bytes the same bytes.
-pub fn print_compared(name: &[u8], t: &[Word], other: &[Word], answers: &[u8], others: &[u8]) {
+// Whether two tables have the same words.
+pub fn print_compared(name: &[u8], t: &[Word], other: &[Word]) {
     print_text(name);
     let words = has_words_of(t, other);
-    print_test(words, b": same words", b": other words");
-    let bytes = is_same(answers, others);
-    print_test(bytes, b", same answer bytes\n", b", other answer bytes\n");
+    print_test(words, b": same words\n", b": other words\n");
 }
