@@ -1,12 +1,12 @@
--- A chunk of bytes: its lines fit a large buffer. A fresh table is consistent. Assumes nothing.
-use Prim.Native.Nat.{ℕ, _*_, _%_, _≤_}
+-- A chunk of bytes: its lines fit the room lent with it; what a turn shows. A fresh table is consistent. Assumes nothing.
+use Prim.Native.Nat.{ℕ, _+_, _*_, _/_, _%_, _≤_, _<_}
 use mathlib.Core.Path.{_≡_, sym, ap, subst, _∙_}
 use mathlib.Core.Bool.{Bool, true, false, _||_, cond}
 use mathlib.Core.List.{List}
 use native.Mathlib.Omega.{arith}
-use native.Mathlib.Nat.{div-le-of-le-mul}
 use lib.Dec.{eqb, leb, ltb}
-use lib.ListN.{length}
+use lib.ListN.{length, take}
+use lib.Seq.{length-take-le, take-all}
 use Rattle.rdfs.specs.Numbers.{product, recordLength}
 use Rattle.rdfs.specs.Words.{facts, fresh}
 use Rattle.rdfs.specs.Demands.{needs}
@@ -14,28 +14,49 @@ use Rattle.rdfs.specs.Clashes.{bars, unequal, existsFor, consistent?}
 use Rattle.rdfs.specs.Register.{cut, Table}
 use Rattle.rdfs.proofs.Cut.{cut-length}
 use Rattle.rdfs.proofs.Decision.{check-sound}
-use Rattle.rdfs.proofs.AfterEach.{run-table}
-use Rattle.rdfs.proofs.Theorems.{product-sound}
 use Rattle.table.specs.Calls.{freshWords}
 use Rattle.apply_tickets.specs.Text.{Printed}
+use Rattle.apply_tickets.specs.Turns.{start, Runs, Lent, Shows, Sized}
+use Rattle.apply_tickets.specs.declared.turns.Turned.the-variants.{More, Last}
 
-pub few-lines : (l : List ℕ) → length l ≤ 16000 → 18 * length (cut recordLength l) ≤ 65536
-few-lines l h = omega (arith, cut-length recordLength (omega arith) l, div-le-of-le-mul recordLength {m = length l} {n = 3200} (omega arith), one (eqb (length l % recordLength) 0))
+-- The lines of the first n bytes of a chunk fit the room that is lent with it.
+pub lines-fit : (bytes out : List ℕ) (n : ℕ) → n ≤ length bytes → 18 * (length bytes / recordLength + 1) ≤ length out
+    → 18 * length (cut recordLength (take n bytes)) ≤ length out
+lines-fit bytes out n h room =
+    let long : length (take n bytes) ≡ n = length-take-le n bytes h in
+    omega (
+      arith,
+      room,
+      h,
+      long,
+      cut-length recordLength (omega arith) (take n bytes),
+      one (eqb (length (take n bytes) % recordLength) 0),
+    )
   where
     one : (b : Bool) → cond b 0 1 ≤ 1
     one true = omega arith
     one false = omega arith
 
--- What a chunk leaves.
-pub printed-table : {w : List ℕ} {l : List (List ℕ)} {r : ℕ} {v out : List ℕ} → Table product w → Printed w l r v out → Table product v
-printed-table {w} {l} t p = subst (Table product) (sym (p .words)) (run-table product product-sound l w t)
+-- A turn with the first n bytes of a chunk, by what stands in the two buffers; with all of them, if n is their number.
+module _ {w : List ℕ} (bytes : List ℕ) {v out : List ℕ} (n : ℕ) {k : ℕ} (p : Printed w (cut recordLength (take n bytes)) k v out) where
+  pub shows-last : n < length bytes → Shows (Last n) w bytes v out
+  shows-last h = (k, h, record { lines = p .lines; words = p .words })
 
-pub fresh-table : Table product (fresh product 2048)
+  pub shows-more : n ≡ length bytes → Shows More w bytes v out
+  shows-more e =
+      let all : take n bytes ≡ bytes = take-all n bytes (omega (arith, e)) in
+      subst (λ l. (j : ℕ) × Runs w v (record { read = l; text = take j out })) all
+      (k, record { lines = p .lines; words = p .words })
+
+pub fresh-table : Table product start
 unfolding consistent? bars unequal existsFor needs
-fresh-table = record { some = omega arith; fits = omega arith; laid = tt; consistent = check-sound (facts product (fresh product 2048)) tt }
+fresh-table =
+    record { some = omega arith; fits = omega arith; laid = tt; consistent = check-sound (facts product start) tt }
 
 -- A table of the most words, made fresh.
-pub started-table : (t : List ℕ) {v : List ℕ} → length t ≡ 2048 → v ≡ freshWords t → Table product v
-started-table t e h =
-    let made : freshWords t ≡ fresh product 2048 = ap (λ n. cond (leb n 0 || ltb (product .most) n) t (fresh product n)) e in
-    subst (Table product) (sym (h ∙ made)) fresh-table
+pub made-fresh : (t : List ℕ) {v : List ℕ} → length t ≡ product .most → v ≡ freshWords t → v ≡ start
+made-fresh t e h = h ∙ ap (λ n. cond (leb n 0 || ltb (product .most) n) t (fresh product n)) e
+
+-- What is lent to the whole program, once the table is fresh.
+pub lent-fresh : {w bytes out : List ℕ} (n : ℕ) → w ≡ start → Sized n (length bytes) (length out) → Lent w bytes out
+lent-fresh n e s = record { table = subst (Table product) (sym e) fresh-table; whole = s .whole; room = s .room }

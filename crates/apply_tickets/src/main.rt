@@ -1,50 +1,44 @@
-// Program one: runs tickets, raw bytes from standard input, on a fresh table of 2,048 words. For each it prints answer, added and removed on a
-// line; 1 to 4 bytes left over are a ticket of that length. Last it prints the count of facts. Input may be of any length.
+// Program one: runs tickets, raw bytes from standard input, on a fresh table of 2,048 words. For each it prints
+// answer, added and removed on a line; 1 to 4 bytes left over are a ticket of that length. Last it prints the count
+// of facts. Input may be of any length. If a read or a write fails, a line on standard error says so and nothing
+// more is printed, so that the count is missing.
 mod lines;
+mod turns;
 
-ghost use Rattle.rdfs.specs.Numbers.{product};
-ghost use Rattle.rdfs.specs.Register.{Table};
-use libc::STDIN_FILENO;
-use libc::STDOUT_FILENO;
+ghost use lib.ListN.{length};
+ghost use Rattle.apply_tickets.specs.Turns.{Sized, Finishes};
 use lines::put_count;
-use lines::put_lines;
+use streams::write_output;
 use table::MOST;
 use table::Word;
 use table::fresh;
+use turns::run_input;
 
 // How many bytes are read at once: whole tickets, whose lines fit a large buffer.
 const CHUNK: usize = 16000;
 
-// Runs what one read brings, and prints its lines. Whether more may come: the input ends where fewer bytes come than were asked for.
-fn run_chunk(table: &mut [Word]) -> bool
-    requires { ⌜ Table product (now table) ⌝ }
-    ensures { λ r. ⌜ Table product (now (table .exit)) ⌝ }
+// Runs the whole input on a fresh table and prints the count. The answer is the length of the count's line, which
+// stands at the start of out; 0 if a read or a write failed.
+fn run_program(table: &mut [Word], bytes: &mut [u8], out: &mut [u8]) -> usize
+    requires { ⌜ Sized (length (now table)) (length (now bytes)) (length (now out)) ⌝ }
+    ensures { λ r. ⌜ Finishes r (length (now (bytes .entry))) (now (table .exit)) (now (out .exit)) ⌝ }
 {
-    let mut bytes = [0u8; CHUNK];
-    let n = io::read_full(STDIN_FILENO, &mut bytes);
-    let mut out = io::large_buffer();
-    let k = put_lines(table, &bytes[..n], &mut out);
-    io::write_all(STDOUT_FILENO, &out[..k]);
-    n == CHUNK
-}
-
-// A loop has to end, and nothing says that the input does: it counts down from a number that no run uses up.
-fn run_input(table: &mut [Word])
-    requires { ⌜ Table product (now table) ⌝ }
-    ensures { λ r. ⌜ Table product (now (table .exit)) ⌝ }
-{
-    let mut turns = u64::MAX;
-    while turns > 0 && run_chunk(table) {
-        turns -= 1;
+    fresh(table);
+    let all = run_input(table, bytes, out);
+    if all {
+        let k = put_count(table, out);
+        let written = write_output(b"apply_tickets", &out[..k]);
+        if written {
+            return k;
+        }
     }
+    0
 }
 
 fn main() {
     let zero: Word = 0;
     let mut table = [zero; MOST];
-    fresh(&mut table);
-    run_input(&mut table);
-    let mut out = io::buffer();
-    let k = put_count(&table, &mut out);
-    io::write_all(STDOUT_FILENO, &out[..k]);
+    let mut bytes = [0u8; CHUNK];
+    let mut out = io::large_buffer();
+    run_program(&mut table, &mut bytes, &mut out);
 }

@@ -1,20 +1,33 @@
--- What a table of zeros holds after an image is read into it. Assumes nothing.
-use Prim.Native.Nat.{ℕ, _-_}
-use mathlib.Core.Path.{_≡_}
+-- What a table of zeros holds after an image is read into it; which images some bytes of the input can begin. Assumes nothing.
+use Prim.Native.Nat.{ℕ, _+_, _-_, _*_, _≤_, _<_}
+use mathlib.Core.Path.{_≡_, refl, sym, ap, subst, _∙_}
 use mathlib.Core.Bool.{Bool, true, false, cond}
 use mathlib.Core.List.{List, []}
+use native.Mathlib.Omega.{arith}
+use native.Mathlib.Decide.{ℕ-discrete}
 use lib.Dec.{eqb}
-use lib.ListN.{length, replicate}
+use lib.ListN.{length, replicate, take, length-take}
+use lib.Seq.{length-take-le, take-all}
 use Rattle.rdfs.specs.Numbers.{product}
+use borrow.Author.Tests.{ne-eqb}
 use Rattle.rdfs.specs.Words.{filled, padded}
+use Rattle.rdfs.specs.Register.{Table}
 use Rattle.rdfs.proofs.Lists.{none-in}
 use Rattle.rdfs.proofs.LaidOut.{filled-before}
+use Rattle.rdfs.proofs.Steps.{checked-table}
 use Rattle.rdfs.proofs.Theorems.{product-sound}
-use Rattle.image.specs.Form.{form}
+use Rattle.image.specs.Form.{form, largestFact, firstBody}
 use Rattle.image.specs.Reading.{wordsOf}
 use Rattle.image.specs.Calls.{readAnswer, readWords}
+use Rattle.image.specs.Writing.{Writable}
 use Rattle.image.proofs.RoundTrip.{words-some}
-use Rattle.print_facts.specs.Text.{wordsRead}
+use Rattle.image.proofs.Measuring.{image-small}
+use Rattle.image.proofs.Theorems.{read-writes}
+use Rattle.streams.specs.Input.{Begins}
+use Rattle.print_facts.specs.Text.{Printed, PrintedFor, Lent, wordsRead}
+
+abbrev room : List ℕ
+room = replicate (product .most) 0
 
 pub filled-read : (image : List ℕ) → filled (readWords (replicate (product .most) 0) image) ≡ wordsRead image
 filled-read image = by-answer (eqb (readAnswer (replicate (product .most) 0) image) 0)
@@ -22,3 +35,31 @@ filled-read image = by-answer (eqb (readAnswer (replicate (product .most) 0) ima
     by-answer : (b : Bool) → filled (cond b (padded (length (replicate {A = ℕ} (product .most) 0)) (wordsOf product form image)) (replicate (product .most) 0)) ≡ cond b (wordsOf product form image) []
     by-answer true = filled-before (wordsOf product form image) (length (replicate {A = ℕ} (product .most) 0) - length (wordsOf product form image)) (words-some product form product-sound image)
     by-answer false = filled-before [] (product .most) (λ x h. absurd (none-in h))
+
+-- More bytes than any image has are not read.
+pub long-unread : (image : List ℕ) → firstBody form + largestFact form * product .most < length image → wordsRead image ≡ []
+long-unread image h = elim (ℕ-discrete (readAnswer room image) 0) [
+  | yes e ↦
+      let again = read-writes room image (sym e) in
+      let t : List ℕ = readWords room image in
+      let table : Table product t = checked-table product t (sym (again .1)) in
+      let counted : Writable t (length (filled t)) =
+      record { counted = record { laid = table .laid; size = refl }; few = table .fits } in
+      absurd (omega (arith, h, ap length (again .0), image-small t (length (filled t)) counted))
+  | no n ↦ ap (λ b. cond b (wordsOf product form image) []) (ne-eqb (readAnswer room image) 0 n)
+]
+
+-- The lines of the bytes read are those of any image that they begin: they are all of it, or too many.
+module _ {n : ℕ} {buffer out : List ℕ} (lent : Lent n buffer out) where
+  pub whole-printed : {r : ℕ} {new : List ℕ} → n ≤ firstBody form + largestFact form * product .most
+      → Printed (wordsRead (take n buffer)) r new → PrintedFor buffer n r new
+  whole-printed {r} {new} few p image b =
+      let all : length image ≡ n = b .all (omega (arith, few, lent .longer)) in
+      let same : take n buffer ≡ image = sym (b .first) ∙ take-all n image (omega (arith, all)) in
+      subst (λ i. Printed (wordsRead i) r new) same p
+
+  pub none-printed : {new : List ℕ} → firstBody form + largestFact form * product .most < n → PrintedFor buffer n 0 new
+  none-printed {new} many image b =
+      let long : firstBody form + largestFact form * product .most < length image =
+      omega (arith, many, ap length (b .first), length-take-le n buffer (lent .within), length-take n image) in
+      subst (λ l. Printed l 0 new) (sym (long-unread image long)) (record { lines = refl; within = omega arith })

@@ -4,7 +4,8 @@ ghost use lib.ListN.{length};
 ghost use Rattle.rdfs.specs.Numbers.{product};
 ghost use Rattle.rdfs.specs.Words.{filled};
 ghost use Rattle.text.specs.Text.{Number, Puts};
-ghost use Rattle.print_facts.specs.Text.{Printed, wordsRead};
+ghost use Rattle.print_facts.specs.Text.{Printed, PrintedFor, Lent, wordsRead};
+use image::LONGEST;
 use image::read;
 use table::MOST;
 use table::Word;
@@ -36,7 +37,7 @@ fn put_lines(t: &[Word], out: &mut [u8]) -> usize
 }
 
 // The lines of an image's facts, at the start of out. A refused image leaves the table without facts, and has no lines.
-pub fn put_facts(image: &[u8], out: &mut [u8]) -> usize
+fn put_facts(image: &[u8], out: &mut [u8]) -> usize
     requires { ⌜ 11 * product .most ≤ length (now out) ⌝ }
     ensures { λ r. ⌜ Printed (wordsRead (now (image .entry))) r (now (out .exit)) ⌝ }
 {
@@ -44,4 +45,17 @@ pub fn put_facts(image: &[u8], out: &mut [u8]) -> usize
     let mut t = [zero; MOST];
     read(&mut t, image);
     put_lines(&t, out)
+}
+
+// The lines of an image's facts, at the start of out, if n bytes of it stand at the start of a buffer that is longer
+// than any image. More bytes than any image has are no image, and have no lines.
+pub fn put_read(buffer: &[u8], n: usize, out: &mut [u8]) -> usize
+    requires { ⌜ Lent n (now buffer) (now out) ⌝ }
+    ensures within { λ r. ⌜ r ≤ length (now (out .exit)) ⌝ }
+    ensures lines { λ r. ⌜ PrintedFor (now (buffer .entry)) n r (now (out .exit)) ⌝ }
+{
+    if LONGEST < n {
+        return 0;
+    }
+    put_facts(&buffer[..n], out)
 }

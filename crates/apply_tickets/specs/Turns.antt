@@ -1,0 +1,90 @@
+-- What program one prints for its whole input, and the turns in which it reads the input and writes the text.
+use Prim.Native.Nat.{ℕ, _+_, _*_, _/_, _%_, _≤_, _<_}
+use mathlib.Core.Path.{_≡_}
+use mathlib.Core.Bool.{Bool, true, false}
+use mathlib.Core.List.{List, [], _∷_, _++_}
+use lib.ListN.{length, take}
+use Rattle.rdfs.specs.Numbers.{product, recordLength}
+use Rattle.rdfs.specs.Lists.{concatMap}
+use Rattle.rdfs.specs.Words.{filled, fresh}
+use Rattle.rdfs.specs.Register.{run, cut, Table}
+use Rattle.text.specs.Text.{Number}
+use Rattle.apply_tickets.specs.Text.{Lines}
+use Rattle.apply_tickets.specs.declared.turns.Turned.{Turned}
+use Rattle.apply_tickets.specs.declared.turns.Turned.the-variants.{More, Last, Failed}
+
+-- The words at the start: a fresh table of the most words.
+abbrev pub start : List ℕ
+start = fresh product (product .most)
+
+-- What program one prints for an input: the lines of its tickets, then the line of the count of facts that they leave.
+abbrev pub Output : List ℕ → List ℕ → Type 0
+Output input text =
+    (lines count : List ℕ)
+    × Lines start (cut recordLength input) lines
+    × Number (length (filled (run product start (cut recordLength input) .table))) 10 count
+    × (text ≡ lines ++ count)
+
+-- A turn: the bytes that it reads, and the text that it writes.
+pub record Turn : Type 0 where
+  pub read : List ℕ
+  pub text : List ℕ
+
+-- On the words w it writes the lines of its tickets, and leaves the words v.
+pub record Runs (w v : List ℕ) (t : Turn) : Type 0 where
+  pub lines : Lines w (cut recordLength (t .read)) (t .text)
+  pub words : v ≡ run product w (cut recordLength (t .read)) .table
+
+-- Turns one after another, each on the words that the one before left, each with a full chunk of `size` bytes.
+abbrev pub FullTurns : ℕ → List ℕ → List Turn → List ℕ → Type 0
+FullTurns size w [] v = v ≡ w
+FullTurns size w (t ∷ l) v = (u : List ℕ) × (length (t .read) ≡ size) × Runs w u t × FullTurns size u l v
+
+-- All turns of a run from the words w, which leaves v: full ones, then the last, whose chunk is not full.
+pub record AllTurns (size : ℕ) (w v : List ℕ) (full : List Turn) (last : Turn) : Type 0 where
+  pub between : List ℕ
+  pub before : FullTurns size w full between
+  pub ended : length (last .read) < size
+  pub runs : Runs between v last
+
+-- What they read, and what they write, one after another.
+abbrev pub readBy : List Turn → Turn → List ℕ
+readBy full last = concatMap (λ t. t .read) full ++ last .read
+
+abbrev pub writtenBy : List Turn → Turn → List ℕ
+writtenBy full last = concatMap (λ t. t .text) full ++ last .text
+
+-- What is lent to a turn: a consistent table, a chunk of whole tickets, and room for a line of 18 bytes for each.
+pub record Lent (words bytes out : List ℕ) : Type 0 where
+  pub table : Table product words
+  pub whole : length bytes % recordLength ≡ 0
+  pub room : 18 * (length bytes / recordLength + 1) ≤ length out
+
+-- What a turn shows of itself in the chunk and in the text's buffer, by its answer. A turn that failed is the end.
+abbrev pub Shows : Turned → (w bytes v out : List ℕ) → Type 0
+Shows More w bytes v out = (k : ℕ) × Runs w v (record { read = bytes; text = take k out })
+Shows (Last n) w bytes v out =
+    (k : ℕ) × (n < length bytes) × Runs w v (record { read = take n bytes; text = take k out })
+Shows Failed w bytes v out = Unit {0}
+
+-- If the turns went on to the end of the input, they are all its turns.
+abbrev pub Ran : Bool → ℕ → List ℕ → List ℕ → Type 0
+Ran true size w v = (full : List Turn) × (last : Turn) × AllTurns size w v full last
+Ran false size w v = Unit {0}
+
+-- A whole run on a fresh table: its turns, and that they and the count's line write what is printed for the input.
+pub record Complete (size : ℕ) (v count : List ℕ) : Type 0 where
+  pub full : List Turn
+  pub last : Turn
+  pub turns : AllTurns size start v full last
+  pub output : Output (readBy full last) (writtenBy full last ++ count)
+
+-- What is lent to the whole program, by the lengths: a table of the most words, and a chunk and room as above.
+pub record Sized (words chunk out : ℕ) : Type 0 where
+  pub most : words ≡ product .most
+  pub whole : chunk % recordLength ≡ 0
+  pub room : 18 * (chunk / recordLength + 1) ≤ out
+
+-- By the length r of the count's line, which stands at the start of `out`: 0 if the run is not whole.
+abbrev pub Finishes : ℕ → ℕ → List ℕ → List ℕ → Type 0
+Finishes r size v out = 0 < r → Complete size v (take r out)
