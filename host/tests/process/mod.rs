@@ -94,10 +94,10 @@ impl Printed {
     }
 }
 
-/// Waits until the program has ended, or for two seconds.
+/// Waits until the program has ended, or for five seconds.
 pub fn wait_until_ended(child: &mut Child) {
     let start = Instant::now();
-    while start.elapsed() < Duration::from_secs(2) {
+    while start.elapsed() < Duration::from_secs(5) {
         if child.try_wait().expect("the program can be waited for").is_some() {
             return;
         }
