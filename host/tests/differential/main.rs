@@ -7,6 +7,7 @@ mod guarded;
 mod host_call;
 #[path = "../independent/mod.rs"]
 mod independent;
+#[path = "../process/mod.rs"]
 mod process;
 mod program_one;
 mod program_two;

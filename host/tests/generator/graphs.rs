@@ -77,6 +77,29 @@ fn loose_literal(graph: &Graph) -> Option<Fact> {
     ids.map(literal).find(|fact| !graph.has(*fact))
 }
 
+/// The most bytes that the image of a consistent graph of 2,048 facts has. Values are the longest facts; 17 individuals and
+/// 7 properties with Resource at both ends have room for 2,023 of them. With any other numbers of individuals, properties
+/// and literals either the values find no room or what they need leaves fewer bytes to them.
+pub const LONGEST_CONSISTENT: usize = 6_125;
+
+/// The graph, with as many values as make its image that long, and literals for the last one or two bytes. They are of
+/// individuals and properties that only this function draws, and the image's length has to leave room for those.
+pub fn of_length(random: &mut Random, start: &Graph, length: usize) -> Graph {
+    let (individuals, properties) = (80..=96, 100..=106);
+    let ends = |p: u8| [property(p), domain(p, RESOURCE), range(p, RESOURCE)];
+    let known = individuals.clone().map(individual).chain(properties.clone().flat_map(ends));
+    let mut graph = smallest(start, &known.collect::<Vec<Fact>>()).expect("the ids are free");
+    let pairs = individuals.clone().flat_map(|x| individuals.clone().map(move |y| (x, y)));
+    let mut values: Vec<Fact> = pairs.flat_map(|(x, y)| properties.clone().map(move |p| value(x, y, p))).collect();
+    random.shuffle(&mut values);
+    let missing = length - image(&graph).len();
+    graph.put(values.into_iter().take(missing / 3));
+    for _ in 0..missing % 3 {
+        graph.put(loose_literal(&graph));
+    }
+    graph
+}
+
 /// Properties one under the other, each with a class of its own, and a value at the lowest one.
 pub fn chain(length: u8) -> Graph {
     let (classes, properties) = (2, 100);

@@ -7,11 +7,10 @@ use super::ticket::{apply, Answer};
 
 /// The answers to the tickets on a fresh table of 2,048 words, and the facts at the end.
 pub fn run_tickets(input: &[u8]) -> (Vec<Answer>, Vec<u32>) {
-    let mut table = [0; MOST_WORDS];
-    fresh(&mut table);
+    let mut run = Run::fresh();
     let tickets = input.chunks(TICKET_LENGTH);
-    let answers = tickets.map(|ticket| apply(&mut table, ticket)).collect();
-    (answers, words_of(&table))
+    let answers = tickets.map(|ticket| run.apply(ticket)).collect();
+    (answers, words_of(&run.table))
 }
 
 /// The words of a table's facts.
@@ -20,12 +19,47 @@ pub fn words_of(table: &[u32]) -> Vec<u32> {
     graph.facts().map(|fact| fact.word()).collect()
 }
 
+/// Program one at work: its table of 2,048 words, and the lines of the tickets so far.
+#[derive(Clone)]
+pub struct Run {
+    table: Vec<u32>,
+    lines: String,
+}
+
+impl Run {
+    pub fn fresh() -> Run {
+        let mut table = vec![0; MOST_WORDS];
+        fresh(&mut table);
+        Run { table, lines: String::new() }
+    }
+
+    pub fn apply(&mut self, ticket: &[u8]) -> Answer {
+        let answer = apply(&mut self.table, ticket);
+        self.lines += &format!("{} {} {}\n", answer.number, answer.added, answer.removed);
+        answer
+    }
+
+    pub fn lines(&self) -> &str {
+        &self.lines
+    }
+
+    pub fn count_facts(&self) -> usize {
+        words_of(&self.table).len()
+    }
+
+    /// All that is printed if the input ends here: last comes the count of facts.
+    pub fn print(&self) -> String {
+        format!("{}{}\n", self.lines, self.count_facts())
+    }
+}
+
 /// Program one: a line for each ticket, last the count of facts.
 pub fn print_answers(input: &[u8]) -> String {
-    let (answers, words) = run_tickets(input);
-    let line = |a: &Answer| format!("{} {} {}\n", a.number, a.added, a.removed);
-    let lines: String = answers.iter().map(line).collect();
-    format!("{lines}{}\n", words.len())
+    let mut run = Run::fresh();
+    for ticket in input.chunks(TICKET_LENGTH) {
+        run.apply(ticket);
+    }
+    run.print()
 }
 
 /// Program two: the words of an image's facts, one a line; nothing for a refused image.
