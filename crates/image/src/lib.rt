@@ -4,13 +4,12 @@
 // The public calls are `write`, `read` and `body`. They have no `requires`: each says, for all inputs, what it answers and every word and byte
 // afterwards; `body` also says where its part lies. An image that was written is read back as its table, and no other image is read
 // (proofs/Theorems.antt). `write_checked` serves the crates above: writing without the check. The crate assumes nothing.
-ghost use mathlib.Core.Path.{_≡_};
 ghost use Rattle.rdfs.specs.Numbers.{product};
 ghost use Rattle.rdfs.specs.Register.{Table};
 ghost use Rattle.image.specs.Form.{form};
 ghost use Rattle.image.specs.Reading.{bodyStart, bodySize};
 ghost use Rattle.image.specs.Parts.{IsPart};
-ghost use Rattle.image.specs.Calls.{writeAnswer, writeLength, writeBytes, readAnswer, readWords};
+ghost use Rattle.image.specs.Calls.{WritePromise, ReadPromise};
 
 mod bodies;
 mod contents;
@@ -50,7 +49,7 @@ pub const SHORT_OUTPUT: u8 = 13;
 
 // Writes the image of a table. The bytes after it are untouched. Refused with 1, 2, 3 or 13, all bytes are as they were.
 pub fn write(t: &[Word], output: &mut [u8]) -> Written
-    ensures { λ r. ⌜ (r .answer ≡ writeAnswer (now (t .entry)) (now (output .entry))) × (r .length ≡ writeLength (now (t .entry)) (now (output .entry))) × (now (output .exit) ≡ writeBytes (now (t .entry)) (now (output .entry))) ⌝ }
+    ensures { λ r. ⌜ WritePromise (now (t .entry)) (now (output .entry)) r (now (output .exit)) ⌝ }
 {
     let answer = check(t);
     if answer != 0 {
@@ -62,7 +61,7 @@ pub fn write(t: &[Word], output: &mut [u8]) -> Written
 // The same for a table known to be consistent: only 13 can come.
 pub fn write_checked(t: &[Word], output: &mut [u8]) -> Written
     requires { ⌜ Table product (now t) ⌝ }
-    ensures { λ r. ⌜ (r .answer ≡ writeAnswer (now (t .entry)) (now (output .entry))) × (r .length ≡ writeLength (now (t .entry)) (now (output .entry))) × (now (output .exit) ≡ writeBytes (now (t .entry)) (now (output .entry))) ⌝ }
+    ensures { λ r. ⌜ WritePromise (now (t .entry)) (now (output .entry)) r (now (output .exit)) ⌝ }
 {
     let n = count_facts(t);
     let length = image_length(t, n);
@@ -101,7 +100,7 @@ pub fn body(image: &[u8], kind: u8) -> &[u8]
 // Reads an image into a table: its words, then zeros. Refused with 1, 12, 11 or 3, the words are as they were. The words that the table
 // held are not looked at.
 pub fn read(t: &mut [Word], image: &[u8]) -> u8
-    ensures { λ r. ⌜ (r ≡ readAnswer (now (t .entry)) (now (image .entry))) × (now (t .exit) ≡ readWords (now (t .entry)) (now (image .entry))) ⌝ }
+    ensures { λ r. ⌜ ReadPromise (now (t .entry)) (now (image .entry)) r (now (t .exit)) ⌝ }
 {
     let bad = is_bad_size(t);
     if bad {

@@ -1,4 +1,5 @@
--- Host: each way through `vimelosa_apply`. Saved: what an accepted call leaves in the output. Theorems: what is proved beside its promise.
+-- Host: each way through `vimelosa_apply`. Saved: what its number says and what it leaves in the output. Theorems: what is proved
+-- from its promise.
 pub mod Host
 pub mod Saved
 pub mod Theorems
