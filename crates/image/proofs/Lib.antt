@@ -4,7 +4,7 @@
 -- Climbing (rise_of, is_rising), HasBody (has_body, body), Filling (count_words, fill_body), Filled (fill_words), ReadCall (read_through, read),
 -- Held (read), KindCount (put_contents), Measuring (image_length, put_contents), Overlaid (put_entry, put_run, put_bodies), PutFact (put_fact),
 -- PutParts (put_contents, put_run, put_bodies), Runs (put_bodies), WriteCall (write_checked, write). Theorems: what is proved of
--- images. CallTheorems: what is proved of the calls from their contracts.
+-- images. CallTheorems: what is proved of the calls from their contracts. Tied: the contracts in the source are those.
 pub mod Cases
 pub mod InBytes
 pub mod FactsRead
@@ -32,3 +32,4 @@ pub mod Runs
 pub mod WriteCall
 pub mod Theorems
 pub mod CallTheorems
+mod Tied
