@@ -1,25 +1,33 @@
 -- Demands 1 and 2 about writing and reading themselves. All that is known of a call is its contract: `WritePromise` for `write`,
--- which answers w and leaves the bytes out; `ReadPromise` for `read`, which answers r and leaves the words v. Assumes nothing.
+-- which answers w and leaves the bytes out; `ReadPromise` for `read`, which answers r and leaves the words v; `BodyPromise` for
+-- `body`. Assumes nothing.
 use Prim.Native.Nat.{ℕ, _≤_}
 use mathlib.Core.Path.{_≡_, refl, sym, ap, subst, _∙_}
 use mathlib.Core.Bool.{false, cond, _||_}
 use mathlib.Core.List.{List, _++_}
-use lib.Dec.{eqb, ltb, leb}
+use lib.Dec.{eqb, ltb, leb, lit≤}
 use lib.ListN.{length, take, drop}
+use denote.Ref.{RefT}
 use borrow.Author.Tests.{ne-eqb}
 use native.Mathlib.Omega.{arith}
 use Rattle.rdfs.specs.Numbers.{product}
+use Rattle.rdfs.specs.Lists.{_∈_}
 use Rattle.rdfs.specs.Words.{filled, padded}
 use Rattle.rdfs.specs.Register.{orElse, badSize, badLayout, inconsistent, tableRefusal, Table}
 use Rattle.rdfs.proofs.Steps.{checked-table}
+use Rattle.rdfs.proofs.Theorems.{product-sound}
 use Rattle.table.proofs.Filled.{filled-within}
-use Rattle.image.specs.Form.{form}
-use Rattle.image.specs.Reading.{wordsOf, malformed}
+use Rattle.contents.specs.Form.{form, kinds}
+use Rattle.contents.specs.Image.{bodyOf}
+use Rattle.contents.specs.Reading.{Facts, wordsOf, malformed, bodyStart, bodySize}
+use Rattle.contents.specs.Parts.{BodyPromise}
+use Rattle.contents.proofs.RoundTrip.{filled-facts}
+use Rattle.contents.proofs.Product.{proper}
 use Rattle.image.specs.Calls.{tableImage, writeAnswer, writeLength, WritePromise, readAnswer, readWords, ReadPromise}
 use Rattle.image.specs.declared.Written.{Written}
 use Rattle.image.proofs.ReadCall.{else-none, read-refused}
 use Rattle.image.proofs.WriteCall.{write-done, write-parts, write-taken}
-use Rattle.image.proofs.Theorems.{image-reads-back, table-reads-back, read-writes}
+use Rattle.image.proofs.Theorems.{body-is-ids, image-reads-back, table-reads-back, read-writes}
 
 module _ (t output : List ℕ) (w : Written) (out : List ℕ) (p : WritePromise t output w out) where
   -- Demand 1: the answer is the first of 1, 2, 3, 13 whose condition holds, or 0.
@@ -62,6 +70,15 @@ module _ (t output : List ℕ) (w : Written) (out : List ℕ) (p : WritePromise 
       let within : length (filled t) ≤ length t = filled-within product t (table .laid) in
       let fits : length (filled t) ≤ length u = subst (λ n. length (filled t) ≤ n) (sym h) within in
       (write-reads-back z u r v q size fits .0, q .1 ∙ (ap (readWords u) (s .1) ∙ sym (table-reads-back t u (s .0) size (sym h))))
+
+  -- What `body` hands out of it for a kind is the ids of that kind's facts, in order.
+  pub write-body-ids : w .answer ≡ 0 → (whole part : RefT (List ℕ)) → whole .now ≡ take (w .length) out → (k : ℕ) → k ∈ kinds form
+      → BodyPromise whole k part → part .now ≡ bodyOf product form (filled t) k
+  write-body-ids z whole part e k i b =
+      let s = write-saved z in
+      let f : Facts product (filled t) = filled-facts product product-sound t (checked-table product t (sym (s .0)) .laid) in
+      b .bytes ∙ (ap (λ m. take (bodySize product form m k) (drop (bodyStart product form m k) m)) (e ∙ s .1)
+      ∙ body-is-ids product form product-sound proper (lit≤ tt) (filled t) f k i)
 
 module _ (u bytes : List ℕ) (r : ℕ) (v : List ℕ) (p : ReadPromise u bytes r v) where
   -- Demand 1: the answer is the first of 1, 12, 11, 3 whose condition holds, or 0.

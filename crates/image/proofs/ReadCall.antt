@@ -14,12 +14,12 @@ use Rattle.rdfs.specs.Words.{padded}
 use Rattle.rdfs.specs.Register.{orElse, badSize, inconsistent, tableRefusal}
 use Rattle.rdfs.proofs.Tables.{padded-length}
 use Rattle.table.proofs.Sizes.{tests-size}
-use Rattle.image.specs.Form.{form}
-use Rattle.image.specs.Reading.{wordsOf, malformed}
-use Rattle.image.specs.Contents.{Fitting}
+use Rattle.contents.specs.Form.{form}
+use Rattle.contents.specs.Reading.{wordsOf, malformed}
+use Rattle.image.specs.Fitting.{Fitting}
 use Rattle.image.specs.Calls.{imageRefusal, readAnswer, readWords, ReadPromise}
-use Rattle.image.proofs.InBytes.{AllBytes}
-use Rattle.image.proofs.Product.{right-malformed}
+use Rattle.contents.proofs.InBytes.{AllBytes}
+use Rattle.contents.proofs.Product.{right-malformed}
 use Rattle.image.proofs.Held.{drop-zeros, held-checked}
 
 -- No refusal: each test fails, and what comes after is 0.

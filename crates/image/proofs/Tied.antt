@@ -14,14 +14,10 @@ use denote.Triple.Entry.{Res, Args}
 use denote.Triple.Clauses.{AtExit}
 use Rattle.rdfs.specs.Numbers.{product}
 use Rattle.rdfs.specs.Register.{Table}
-use Rattle.image.specs.Form.{form}
-use Rattle.image.specs.Reading.{bodyStart, bodySize}
-use Rattle.image.specs.Parts.{IsPart}
 use Rattle.image.specs.Calls.{WritePromise, ReadPromise}
 use Rattle.image.proofs.write as write
 use Rattle.image.proofs.write_checked as checked
 use Rattle.image.proofs.read as read
-use Rattle.image.proofs.body as body
 
 module _ {M : Type 1} (𝓤 : URA M) (H : Heap 𝓤) (A : Atoms 𝓤) (mem : Memory → SProp 𝓤) (run : Routine → Fun 𝓤) where
   module _ (κs : Lfts 2) (a : Args write.signature κs) where
@@ -49,12 +45,3 @@ module _ {M : Type 1} (𝓤 : URA M) (H : Heap 𝓤) (A : Atoms 𝓤) (mem : Mem
     pub read-promises : (r : Res read.signature κs) (e : AtExit read.ended κs)
         → read.clauses 𝓤 H A mem run κs a .ensures tt r e ≡ fact 𝓤 (ReadPromise (now (a .0)) (now (a .1 .0)) r (now (e .0)))
     read-promises r e = refl
-
-  module _ (κs : Lfts 1) (a : Args body.signature κs) where
-    pub body-asks : body.clauses 𝓤 H A mem run κs a .requires tt ≡ emp 𝓤
-    body-asks = refl
-
-    pub body-promises : (r : Res body.signature κs) (e : AtExit body.ended κs)
-        → body.clauses 𝓤 H A mem run κs a .ensures tt r e
-        ≡ fact 𝓤 (IsPart (a .0) r (bodyStart product form (now (a .0)) (a .1 .0)) (bodySize product form (now (a .0)) (a .1 .0)))
-    body-promises r e = refl

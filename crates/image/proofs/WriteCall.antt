@@ -14,8 +14,8 @@ use Rattle.rdfs.specs.Lists.{concatMap}
 use Rattle.rdfs.specs.Words.{filled}
 use Rattle.rdfs.specs.Register.{orElse, tableRefusal, Table}
 use Rattle.rdfs.proofs.Steps.{table-passes, table-stops, checked-table}
-use Rattle.image.specs.Form.{form, firstBody}
-use Rattle.image.specs.Image.{idBytes}
+use Rattle.contents.specs.Form.{form, firstBody}
+use Rattle.contents.specs.Image.{idBytes}
 use Rattle.image.specs.Calls.{tableImage, writeAnswer, writeLength, writeBytes, WritePromise}
 use Rattle.image.specs.Writing.{Writable}
 use Rattle.image.proofs.Measuring.{image-whole}

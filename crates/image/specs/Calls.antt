@@ -8,9 +8,9 @@ use lib.ListN.{length, drop}
 use Rattle.rdfs.specs.Numbers.{product}
 use Rattle.rdfs.specs.Words.{filled, padded}
 use Rattle.rdfs.specs.Register.{orElse, badSize, inconsistent, tableRefusal}
-use Rattle.image.specs.Form.{form}
-use Rattle.image.specs.Image.{imageOf}
-use Rattle.image.specs.Reading.{wordsOf, malformed}
+use Rattle.contents.specs.Form.{form}
+use Rattle.contents.specs.Image.{imageOf}
+use Rattle.contents.specs.Reading.{wordsOf, malformed}
 use Rattle.image.specs.declared.Written.{Written}
 
 -- The image of a table's facts.

@@ -1,30 +1,23 @@
-// The image of a table: contents, then one body for each kind. It is written into lent bytes, read into a lent table, and a kind's body is
-// handed out as a part of it.
+// The image of a table: contents, then one body for each kind. It is written into lent bytes, read into a
+// lent table, and a kind's body is handed out as a part of it.
 //
-// The public calls are `write`, `read` and `body`. They have no `requires`: each says, for all inputs, what it answers and every word and byte
-// afterwards; `body` also says where its part lies. An image that was written is read back as its table, and no other image is read
-// (proofs/Theorems.antt). `write_checked` serves the crates above: writing without the check. The crate assumes nothing.
+// The public calls are `write`, `read` and `body`, the last passed on from crate `contents`. They have no
+// `requires`: each says, for all inputs, what it answers and every word and byte afterwards; `body` also says
+// where its part lies. An image that was written is read back as its table, and no other image is read
+// (proofs/Theorems.antt, proofs/CallTheorems.antt). `write_checked` serves the crates above: writing without
+// the check. The crate assumes nothing.
 ghost use Rattle.rdfs.specs.Numbers.{product};
 ghost use Rattle.rdfs.specs.Register.{Table};
-ghost use Rattle.image.specs.Form.{form};
-ghost use Rattle.image.specs.Reading.{bodyStart, bodySize};
-ghost use Rattle.image.specs.Parts.{IsPart};
 ghost use Rattle.image.specs.Calls.{WritePromise, ReadPromise};
 
-mod bodies;
-mod contents;
-mod form;
 mod reader;
 mod writer;
 
-use bodies::has_body;
 use consistency::check;
-use contents::count_at;
+pub use contents::FIRST_BODY;
+pub use contents::LONGEST;
+pub use contents::body;
 use contents::has_contents;
-use contents::start_at;
-pub use form::FIRST_BODY;
-pub use form::LONGEST;
-use form::fact_size;
 use reader::MALFORMED;
 use reader::count_words;
 use reader::overfull_refusal;
@@ -77,24 +70,6 @@ pub fn write_checked(t: &[Word], output: &mut [u8]) -> Written
         answer: 0,
         length: length as u16,
     }
-}
-
-// The body of a kind, as a part of the image. If the image is malformed or the number is no kind, the empty part at the image's end.
-// An empty body of a good image is the empty part at its own start.
-pub fn body(image: &[u8], kind: u8) -> &[u8]
-    ensures { λ r. ⌜ IsPart (image .entry) r (bodyStart product form (now (image .entry)) kind) (bodySize product form (now (image .entry)) kind) ⌝ }
-{
-    let k = kind as Word;
-    let there = has_body(image, k);
-    let end = image.len();
-    if !there {
-        return &image[end..end];
-    }
-    let from = start_at(image, k);
-    let size = fact_size(k);
-    let count = count_at(image, k);
-    let to = from + size * count;
-    &image[from..to]
 }
 
 // Reads an image into a table: its words, then zeros. Refused with 1, 12, 11 or 3, the words are as they were. The words that the table

@@ -10,10 +10,10 @@ use Rattle.rdfs.specs.Words.{filled, padded}
 use Rattle.rdfs.proofs.Lists.{none-in}
 use Rattle.rdfs.proofs.LaidOut.{filled-before}
 use Rattle.rdfs.proofs.Theorems.{product-sound}
-use Rattle.image.specs.Form.{form}
-use Rattle.image.specs.Reading.{wordsOf}
+use Rattle.contents.specs.Form.{form}
+use Rattle.contents.specs.Reading.{wordsOf}
 use Rattle.image.specs.Calls.{readAnswer, readWords}
-use Rattle.image.proofs.RoundTrip.{words-some}
+use Rattle.contents.proofs.RoundTrip.{words-some}
 use Rattle.print_facts.specs.Text.{wordsRead}
 
 pub filled-read : (image : List ℕ) → filled (readWords (replicate (product .most) 0) image) ≡ wordsRead image

@@ -17,8 +17,8 @@ use Rattle.rdfs.proofs.Filters.{filter-split}
 use Rattle.rdfs.proofs.Refusals.{new, passed}
 use Rattle.rdfs.proofs.Steps.{step-number, accepted-leaves, room-fits, step-length}
 use Rattle.table.proofs.Filled.{filled-within}
-use Rattle.image.specs.Form.{form}
-use Rattle.image.specs.Reading.{wordsOf, malformed}
+use Rattle.contents.specs.Form.{form}
+use Rattle.contents.specs.Reading.{wordsOf, malformed}
 use Rattle.image.specs.Calls.{tableImage, readAnswer, readWords, writeAnswer, writeLength, writeBytes}
 use Rattle.image.proofs.ReadCall.{read-length}
 use Rattle.image.proofs.WriteCall.{write-taken}

@@ -12,8 +12,8 @@ use Rattle.rdfs.specs.Words.{filled}
 use Rattle.rdfs.specs.Register.{orElse, badSize, inconsistent, tableRefusal, Table}
 use Rattle.rdfs.proofs.Steps.{table-passes}
 use Rattle.table.proofs.Filled.{filled-within}
-use Rattle.image.specs.Form.{form}
-use Rattle.image.specs.Reading.{wordsOf}
+use Rattle.contents.specs.Form.{form}
+use Rattle.contents.specs.Reading.{wordsOf}
 use Rattle.image.specs.Calls.{tableImage, imageRefusal, readAnswer, readWords, ReadPromise, writeAnswer}
 use Rattle.image.proofs.Theorems.{image-reads-back, table-reads-back}
 use Rattle.vimelosa.specs.Host.{answerIn, addedIn, removedIn, lengthIn, room, applied, hostAnswer, HostPromise}
