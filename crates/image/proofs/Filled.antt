@@ -6,9 +6,9 @@ use native.Mathlib.Omega.{arith}
 use lib.ListN.{length, take, drop, length-append, length-drop}
 use lib.Seq.{take-at, drop-drop, drop-append-add, take-add, take-all, take-length, length-take-le, paste}
 use Rattle.rdfs.specs.Numbers.{product}
-use Rattle.image.specs.Form.{form, fieldValues}
-use Rattle.image.specs.Reading.{startAt, countAt, wordsFrom, wordsIn, wordsOf}
-use Rattle.image.proofs.WordsRead.{wordsFrom-length}
+use Rattle.contents.specs.Form.{form, fieldValues}
+use Rattle.contents.specs.Reading.{startAt, countAt, wordsFrom, wordsIn, wordsOf}
+use Rattle.contents.proofs.WordsRead.{wordsFrom-length}
 use Rattle.image.proofs.Filling.{later, Passed, passed-start, passed-next, passed-more, passed-all}
 
 -- The words of the first `done` kinds stand in their places.

@@ -8,10 +8,10 @@ use lib.ListN.{length, getD, set, drop, length-append, length-drop}
 use lib.Seq.{drop-at, drop-drop, paste, paste-zero, paste-suc, length-paste}
 use Rattle.rdfs.specs.Numbers.{product}
 use Rattle.rdfs.specs.Lists.{concatMap}
-use Rattle.image.specs.Form.{form, fieldValues, factSize, kindsAfter}
-use Rattle.image.specs.Reading.{startAt, countAt, wordAt, wordsFrom, wordsIn, wordsOf}
-use Rattle.image.proofs.WordsRead.{wordsFrom-length}
-use Rattle.image.proofs.Linking.{kinds-more, kinds-done}
+use Rattle.contents.specs.Form.{form, fieldValues, factSize, kindsAfter}
+use Rattle.contents.specs.Reading.{startAt, countAt, wordAt, wordsFrom, wordsIn, wordsOf}
+use Rattle.contents.proofs.WordsRead.{wordsFrom-length}
+use Rattle.contents.proofs.Linking.{kinds-more, kinds-done}
 
 -- The words of the kinds after the first `done`.
 abbrev pub later : List ℕ → ℕ → List ℕ

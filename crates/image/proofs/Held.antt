@@ -18,9 +18,9 @@ use Rattle.rdfs.proofs.Tables.{padded-length}
 use Rattle.rdfs.proofs.Theorems.{product-sound}
 use Rattle.table.proofs.Answers.{is-true}
 use Rattle.table.proofs.Rising.{laid-some}
-use Rattle.image.specs.Form.{form}
-use Rattle.image.specs.Reading.{wordsOf}
-use Rattle.image.proofs.RoundTrip.{words-some, words-full}
+use Rattle.contents.specs.Form.{form}
+use Rattle.contents.specs.Reading.{wordsOf}
+use Rattle.contents.proofs.RoundTrip.{words-some, words-full}
 
 -- Zeros.
 pub drop-zeros : (m n : ℕ) → drop n (replicate m 0) ≡ replicate {A = ℕ} (m - n) 0

@@ -17,10 +17,10 @@ use Rattle.table.specs.Parts.{wordOf}
 use Rattle.table.proofs.Below.{below-less, below-not, below-none}
 use Rattle.table.proofs.Filled.{filled-within}
 use Rattle.table.proofs.Counted.{counted-first}
-use Rattle.image.specs.Image.{factKind, ofKind}
+use Rattle.contents.specs.Image.{factKind, ofKind}
 use Rattle.image.specs.Writing.{Writable}
-use Rattle.image.proofs.FactsRead.{fact-kind}
-use Rattle.image.proofs.Grouped.{kind-more, kind-skip, word-within}
+use Rattle.contents.proofs.FactsRead.{fact-kind}
+use Rattle.contents.proofs.Grouped.{kind-more, kind-skip, word-within}
 
 kind-between : (k : ℕ) (l : List ℕ) → ((w : ℕ) → w ∈ l → T (isFact product w)) → below l (wordOf (k + 1) 0 0 0) ≡ below l (wordOf k 0 0 0) + length (ofKind product k l)
 kind-between k [] h = refl

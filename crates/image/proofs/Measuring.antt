@@ -16,19 +16,19 @@ use Rattle.table.specs.Parts.{wordOf}
 use Rattle.table.proofs.Below.{below-less, below-not, first-within}
 use Rattle.table.proofs.Filled.{filled-within}
 use Rattle.table.proofs.Counted.{counted-first, counted-search}
-use Rattle.image.specs.Form.{form, factSize, largestFact, firstBody, kindsAfter, kinds}
-use Rattle.image.specs.Image.{factKind, ofKind, idBytes, bodyOf, bodies, imageOf}
-use Rattle.image.specs.Reading.{Facts}
+use Rattle.contents.specs.Form.{form, factSize, largestFact, firstBody, kindsAfter, kinds}
+use Rattle.contents.specs.Image.{factKind, ofKind, idBytes, bodyOf, bodies, imageOf}
+use Rattle.contents.specs.Reading.{Facts}
 use Rattle.image.specs.Calls.{tableImage}
 use Rattle.image.specs.Writing.{Writable}
-use Rattle.image.proofs.FactsRead.{fact-kind}
-use Rattle.image.proofs.Places.{arity-one, arity-two}
-use Rattle.image.proofs.WordsRead.{idBytes-length}
-use Rattle.image.proofs.Grouped.{word-within}
-use Rattle.image.proofs.ImageRead.{bodyOf-length, image-length}
-use Rattle.image.proofs.RoundTrip.{kinds-all, filled-facts}
-use Rattle.image.proofs.Linking.{kinds-more}
-use Rattle.image.proofs.Product.{proper}
+use Rattle.contents.proofs.FactsRead.{fact-kind}
+use Rattle.contents.proofs.Places.{arity-one, arity-two}
+use Rattle.contents.proofs.WordsRead.{idBytes-length}
+use Rattle.contents.proofs.Grouped.{word-within}
+use Rattle.contents.proofs.ImageRead.{bodyOf-length, image-length}
+use Rattle.contents.proofs.RoundTrip.{kinds-all, filled-facts}
+use Rattle.contents.proofs.Linking.{kinds-more}
+use Rattle.contents.proofs.Product.{proper}
 
 pub concat-append : (f : ℕ → List ℕ) (l m : List ℕ) → concatMap f (l ++ m) ≡ concatMap f l ++ concatMap f m
 concat-append f [] m = refl

@@ -11,10 +11,10 @@ use Rattle.rdfs.specs.Facts.{ids}
 use Rattle.rdfs.specs.Words.{fact, isFact}
 use Rattle.table.specs.Parts.{kindOf, firstOf, secondOf, thirdOf}
 use Rattle.table.proofs.FactParts.{word-shaped}
-use Rattle.image.specs.Form.{form, inBytes}
-use Rattle.image.specs.Image.{idBytes}
+use Rattle.contents.specs.Form.{form, inBytes}
+use Rattle.contents.specs.Image.{idBytes}
 use Rattle.image.specs.Writing.{over}
-use Rattle.image.proofs.FactsRead.{IsKind, is-kind}
+use Rattle.contents.proofs.FactsRead.{IsKind, is-kind}
 use Rattle.image.proofs.Overlaid.{one-store, two-stores, three-stores}
 
 single : (l : List ℕ) → concatMap (inBytes 1) l ≡ l

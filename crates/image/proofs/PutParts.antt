@@ -11,15 +11,15 @@ use Rattle.rdfs.specs.Numbers.{product}
 use Rattle.rdfs.specs.Lists.{concatMap}
 use Rattle.rdfs.specs.Words.{filled}
 use Rattle.table.proofs.Counted.{counted-at}
-use Rattle.image.specs.Form.{form, factSize, entrySize, entryAt, firstBody, kindsAfter, kinds}
-use Rattle.image.specs.Image.{ofKind, idBytes, bodies, entry, contents, imageOf}
+use Rattle.contents.specs.Form.{form, factSize, entrySize, entryAt, firstBody, kindsAfter, kinds}
+use Rattle.contents.specs.Image.{ofKind, idBytes, bodies, entry, contents, imageOf}
 use Rattle.image.specs.Calls.{tableImage}
 use Rattle.image.specs.Writing.{Writable, over, Overlaid, Embodied}
-use Rattle.image.proofs.ImageRead.{entry-length, image-parts, bodies-at, image-length}
-use Rattle.image.proofs.Linking.{kinds-more}
+use Rattle.contents.proofs.ImageRead.{entry-length, image-parts, bodies-at, image-length}
+use Rattle.contents.proofs.Linking.{kinds-more}
 use Rattle.image.proofs.Measuring.{counted-facts, bodies-all, image-whole, Measured, measured-start, measured-more}
 use Rattle.image.proofs.Overlaid.{overlaid-length, overlaid-self, overlaid-trans, overlaid-more, overlaid-all, two-stores}
-use Rattle.image.proofs.Product.{proper}
+use Rattle.contents.proofs.Product.{proper}
 
 image-head : (l : List ℕ) → drop 0 (imageOf product form l) ≡ (form .edition ∷ form .entries ∷ []) ++ (contents product form l (firstBody form) (kinds form) ++ bodies product form l (kinds form))
 unfolding imageOf

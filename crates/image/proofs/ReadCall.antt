@@ -14,16 +14,16 @@ use Rattle.rdfs.specs.Words.{padded}
 use Rattle.rdfs.specs.Register.{orElse, badSize, inconsistent, tableRefusal}
 use Rattle.rdfs.proofs.Tables.{padded-length}
 use Rattle.table.proofs.Sizes.{tests-size}
-use Rattle.image.specs.Form.{form}
-use Rattle.image.specs.Reading.{wordsOf, malformed}
-use Rattle.image.specs.Contents.{Fitting}
-use Rattle.image.specs.Calls.{imageRefusal, readAnswer, readWords}
-use Rattle.image.proofs.InBytes.{AllBytes}
-use Rattle.image.proofs.Product.{right-malformed}
+use Rattle.contents.specs.Form.{form}
+use Rattle.contents.specs.Reading.{wordsOf, malformed}
+use Rattle.image.specs.Fitting.{Fitting}
+use Rattle.image.specs.Calls.{imageRefusal, readAnswer, readWords, ReadPromise}
+use Rattle.contents.proofs.InBytes.{AllBytes}
+use Rattle.contents.proofs.Product.{right-malformed}
 use Rattle.image.proofs.Held.{drop-zeros, held-checked}
 
 -- No refusal: each test fails, and what comes after is 0.
-else-none : (b : Bool) (n rest : ℕ) → (n ≡ 0 → ⊥) → orElse b n rest ≡ 0 → (b ≡ false) × (rest ≡ 0)
+pub else-none : (b : Bool) (n rest : ℕ) → (n ≡ 0 → ⊥) → orElse b n rest ≡ 0 → (b ≡ false) × (rest ≡ 0)
 else-none true n rest h e = absurd (h e)
 else-none false n rest h e = (refl, e)
 
@@ -51,10 +51,10 @@ abbrev last : List ℕ → ℕ
 last bytes = orElse (inconsistent product (words bytes)) 3 0
 
 module _ (t bytes : List ℕ) where
-  pub read-refused : (n : ℕ) → n ≡ readAnswer t bytes → (n ≡ 0 → ⊥) → (n ≡ readAnswer t bytes) × (t ≡ readWords t bytes)
+  pub read-refused : (n : ℕ) → n ≡ readAnswer t bytes → (n ≡ 0 → ⊥) → ReadPromise t bytes n t
   read-refused n e h = (e, sym (ap (λ b. cond b (padded (length t) (words bytes)) t) (ne-eqb (readAnswer t bytes) 0 (λ z. h (e ∙ z)))))
 
-  pub read-done : 0 ≡ readAnswer t bytes → (t′ : List ℕ) → t′ ≡ padded (length t) (words bytes) → (0 ≡ readAnswer t bytes) × (t′ ≡ readWords t bytes)
+  pub read-done : 0 ≡ readAnswer t bytes → (t′ : List ℕ) → t′ ≡ padded (length t) (words bytes) → ReadPromise t bytes 0 t′
   read-done e t′ h = (e, h ∙ sym (ap (λ b. cond b (padded (length t) (words bytes)) t) (eq-eqb (readAnswer t bytes) 0 (sym e))))
 
   -- 1.

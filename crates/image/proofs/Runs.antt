@@ -12,7 +12,7 @@ use Rattle.table.specs.Parts.{kindOf, wordOf}
 use Rattle.table.proofs.Below.{first-within, first-up, first-down}
 use Rattle.table.proofs.Counted.{counted-search, counted-fact}
 use Rattle.image.specs.Writing.{Writable, Run}
-use Rattle.image.proofs.Places.{arity-one, arity-two}
+use Rattle.contents.proofs.Places.{arity-one, arity-two}
 use Rattle.image.proofs.Measuring.{ones-within, twos-within}
 use Rattle.image.proofs.PutFact.{kind-bounds}
 

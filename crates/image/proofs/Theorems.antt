@@ -15,12 +15,12 @@ use Rattle.rdfs.proofs.Steps.{table-sane, checked-table}
 use Rattle.rdfs.proofs.Theorems.{product-sound}
 use Rattle.table.proofs.Answers.{is-true, is-false}
 use Rattle.table.proofs.Filled.{filled-within}
-use Rattle.image.specs.Form.{Form, Proper, form, kinds}
-use Rattle.image.specs.Image.{bodyOf, imageOf}
-use Rattle.image.specs.Reading.{Facts, wordsOf, malformed, bodyStart, bodySize}
+use Rattle.contents.specs.Form.{Form, Proper, form, kinds}
+use Rattle.contents.specs.Image.{bodyOf, imageOf}
+use Rattle.contents.specs.Reading.{Facts, wordsOf, malformed, bodyStart, bodySize}
 use Rattle.image.specs.Calls.{tableImage, readAnswer, readWords}
-use Rattle.image.proofs.RoundTrip.{words-again, written-well, read-well, words-full, body-ids, filled-facts}
-use Rattle.image.proofs.Product.{proper}
+use Rattle.contents.proofs.RoundTrip.{words-again, written-well, read-well, words-full, body-ids, filled-facts}
+use Rattle.contents.proofs.Product.{proper}
 use Rattle.image.proofs.Held.{held-filled, held-checked}
 use Rattle.image.proofs.ReadCall.{read-done, read-fitting, read-parts}
 

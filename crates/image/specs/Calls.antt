@@ -1,5 +1,6 @@
 -- What the public calls answer and leave, for all words of a table and all bytes.
 use Prim.Native.Nat.{ℕ}
+use mathlib.Core.Path.{_≡_}
 use mathlib.Core.Bool.{cond}
 use mathlib.Core.List.{List, _++_}
 use lib.Dec.{eqb, ltb}
@@ -7,9 +8,10 @@ use lib.ListN.{length, drop}
 use Rattle.rdfs.specs.Numbers.{product}
 use Rattle.rdfs.specs.Words.{filled, padded}
 use Rattle.rdfs.specs.Register.{orElse, badSize, inconsistent, tableRefusal}
-use Rattle.image.specs.Form.{form}
-use Rattle.image.specs.Image.{imageOf}
-use Rattle.image.specs.Reading.{wordsOf, malformed}
+use Rattle.contents.specs.Form.{form}
+use Rattle.contents.specs.Image.{imageOf}
+use Rattle.contents.specs.Reading.{wordsOf, malformed}
+use Rattle.image.specs.declared.Written.{Written}
 
 -- The image of a table's facts.
 abbrev pub tableImage : List ℕ → List ℕ
@@ -27,6 +29,11 @@ writeLength t output = cond (eqb (writeAnswer t output) 0) (length (tableImage t
 abbrev pub writeBytes : List ℕ → List ℕ → List ℕ
 writeBytes t output = cond (eqb (writeAnswer t output) 0) (tableImage t ++ drop (length (tableImage t)) output) output
 
+-- The promise of writing, for all words t and bytes output: its answer r, and the bytes out that it leaves.
+abbrev pub WritePromise : List ℕ → List ℕ → Written → List ℕ → Type 0
+WritePromise t output r out =
+    (r .answer ≡ writeAnswer t output) × (r .length ≡ writeLength t output) × (out ≡ writeBytes t output)
+
 -- Refusals 12 and 11 of bytes that are to be read into a number of words, then others.
 abbrev pub imageRefusal : List ℕ → ℕ → ℕ → ℕ
 imageRefusal bytes room rest = orElse (malformed product form bytes) 12 (orElse (ltb room (length (wordsOf product form bytes))) 11 rest)
@@ -38,3 +45,7 @@ readAnswer t bytes = orElse (badSize product t) 1 (imageRefusal bytes (length t)
 -- The image's words, then zeros; on refusal the words as they were.
 abbrev pub readWords : List ℕ → List ℕ → List ℕ
 readWords t bytes = cond (eqb (readAnswer t bytes) 0) (padded (length t) (wordsOf product form bytes)) t
+
+-- The promise of reading, for all words u and all bytes: its answer r, and the words v that it leaves.
+abbrev pub ReadPromise : List ℕ → List ℕ → ℕ → List ℕ → Type 0
+ReadPromise u bytes r v = (r ≡ readAnswer u bytes) × (v ≡ readWords u bytes)

@@ -1,8 +1,3 @@
-pub mod Form
-pub mod Image
-pub mod Reading
-pub mod Contents
-pub mod Rising
-pub mod Parts
 pub mod Calls
+pub mod Fitting
 pub mod Writing

@@ -8,8 +8,8 @@ use Rattle.rdfs.specs.Lists.{concatMap}
 use Rattle.rdfs.specs.Words.{filled}
 use Rattle.table.specs.Parts.{kindOf}
 use Rattle.table.specs.Counted.{Counted}
-use Rattle.image.specs.Form.{form}
-use Rattle.image.specs.Image.{idBytes, imageOf}
+use Rattle.contents.specs.Form.{form}
+use Rattle.contents.specs.Image.{idBytes, imageOf}
 
 -- A table that can be written: it is laid out, n is the number of its facts, and it has at most the most words.
 pub record Writable (t : List ℕ) (n : ℕ) : Type 0 where

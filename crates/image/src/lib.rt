@@ -1,31 +1,23 @@
-// The image of a table: contents, then one body for each kind. It is written into lent bytes, read into a lent table, and a kind's body is
-// handed out as a part of it.
+// The image of a table: contents, then one body for each kind. It is written into lent bytes, read into a
+// lent table, and a kind's body is handed out as a part of it.
 //
-// The public calls are `write`, `read` and `body`. They have no `requires`: each says, for all inputs, what it answers and every word and byte
-// afterwards; `body` also says where its part lies. An image that was written is read back as its table, and no other image is read
-// (proofs/Theorems.antt). `write_checked` serves the crates above: writing without the check. The crate assumes nothing.
-ghost use mathlib.Core.Path.{_≡_};
+// The public calls are `write`, `read` and `body`, the last passed on from crate `contents`. They have no
+// `requires`: each says, for all inputs, what it answers and every word and byte afterwards; `body` also says
+// where its part lies. An image that was written is read back as its table, and no other image is read
+// (proofs/Theorems.antt, proofs/CallTheorems.antt). `write_checked` serves the crates above: writing without
+// the check. The crate assumes nothing.
 ghost use Rattle.rdfs.specs.Numbers.{product};
 ghost use Rattle.rdfs.specs.Register.{Table};
-ghost use Rattle.image.specs.Form.{form};
-ghost use Rattle.image.specs.Reading.{bodyStart, bodySize};
-ghost use Rattle.image.specs.Parts.{IsPart};
-ghost use Rattle.image.specs.Calls.{writeAnswer, writeLength, writeBytes, readAnswer, readWords};
+ghost use Rattle.image.specs.Calls.{WritePromise, ReadPromise};
 
-mod bodies;
-mod contents;
-mod form;
 mod reader;
 mod writer;
 
-use bodies::has_body;
 use consistency::check;
-use contents::count_at;
+pub use contents::FIRST_BODY;
+pub use contents::LONGEST;
+pub use contents::body;
 use contents::has_contents;
-use contents::start_at;
-pub use form::FIRST_BODY;
-pub use form::LONGEST;
-use form::fact_size;
 use reader::MALFORMED;
 use reader::count_words;
 use reader::overfull_refusal;
@@ -50,7 +42,7 @@ pub const SHORT_OUTPUT: u8 = 13;
 
 // Writes the image of a table. The bytes after it are untouched. Refused with 1, 2, 3 or 13, all bytes are as they were.
 pub fn write(t: &[Word], output: &mut [u8]) -> Written
-    ensures { λ r. ⌜ (r .answer ≡ writeAnswer (now (t .entry)) (now (output .entry))) × (r .length ≡ writeLength (now (t .entry)) (now (output .entry))) × (now (output .exit) ≡ writeBytes (now (t .entry)) (now (output .entry))) ⌝ }
+    ensures { λ r. ⌜ WritePromise (now (t .entry)) (now (output .entry)) r (now (output .exit)) ⌝ }
 {
     let answer = check(t);
     if answer != 0 {
@@ -62,7 +54,7 @@ pub fn write(t: &[Word], output: &mut [u8]) -> Written
 // The same for a table known to be consistent: only 13 can come.
 pub fn write_checked(t: &[Word], output: &mut [u8]) -> Written
     requires { ⌜ Table product (now t) ⌝ }
-    ensures { λ r. ⌜ (r .answer ≡ writeAnswer (now (t .entry)) (now (output .entry))) × (r .length ≡ writeLength (now (t .entry)) (now (output .entry))) × (now (output .exit) ≡ writeBytes (now (t .entry)) (now (output .entry))) ⌝ }
+    ensures { λ r. ⌜ WritePromise (now (t .entry)) (now (output .entry)) r (now (output .exit)) ⌝ }
 {
     let n = count_facts(t);
     let length = image_length(t, n);
@@ -80,28 +72,10 @@ pub fn write_checked(t: &[Word], output: &mut [u8]) -> Written
     }
 }
 
-// The body of a kind, as a part of the image. If the image is malformed or the number is no kind, the empty part at the image's end.
-// An empty body of a good image is the empty part at its own start.
-pub fn body(image: &[u8], kind: u8) -> &[u8]
-    ensures { λ r. ⌜ IsPart (image .entry) r (bodyStart product form (now (image .entry)) kind) (bodySize product form (now (image .entry)) kind) ⌝ }
-{
-    let k = kind as Word;
-    let there = has_body(image, k);
-    let end = image.len();
-    if !there {
-        return &image[end..end];
-    }
-    let from = start_at(image, k);
-    let size = fact_size(k);
-    let count = count_at(image, k);
-    let to = from + size * count;
-    &image[from..to]
-}
-
 // Reads an image into a table: its words, then zeros. Refused with 1, 12, 11 or 3, the words are as they were. The words that the table
 // held are not looked at.
 pub fn read(t: &mut [Word], image: &[u8]) -> u8
-    ensures { λ r. ⌜ (r ≡ readAnswer (now (t .entry)) (now (image .entry))) × (now (t .exit) ≡ readWords (now (t .entry)) (now (image .entry))) ⌝ }
+    ensures { λ r. ⌜ ReadPromise (now (t .entry)) (now (image .entry)) r (now (t .exit)) ⌝ }
 {
     let bad = is_bad_size(t);
     if bad {

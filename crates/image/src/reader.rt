@@ -6,17 +6,18 @@ ghost use lib.ListN.{length, drop, replicate};
 ghost use lib.Seq.{paste};
 ghost use Rattle.rdfs.specs.Numbers.{product};
 ghost use Rattle.rdfs.specs.Register.{orElse};
-ghost use Rattle.image.specs.Form.{form, factSize};
-ghost use Rattle.image.specs.Reading.{wordsFrom, wordsOf, malformed};
-ghost use Rattle.image.specs.Contents.{Contents, Fitting};
-ghost use Rattle.image.specs.Calls.{readAnswer, readWords};
-use crate::bodies::is_rising;
-use crate::bodies::word_at;
-use crate::contents::count_at;
-use crate::contents::start_at;
-use crate::form::ENTRIES;
-use crate::form::fact_size;
+ghost use Rattle.contents.specs.Form.{form, factSize};
+ghost use Rattle.contents.specs.Reading.{wordsFrom, wordsOf, malformed};
+ghost use Rattle.contents.specs.Contents.{Contents};
+ghost use Rattle.image.specs.Fitting.{Fitting};
+ghost use Rattle.image.specs.Calls.{ReadPromise};
 use consistency::check;
+use contents::ENTRIES;
+use contents::count_at;
+use contents::fact_size;
+use contents::is_rising;
+use contents::start_at;
+use contents::word_at;
 use table::BAD_LAYOUT;
 use table::Word;
 use table::copy_words;
@@ -91,7 +92,7 @@ fn fill_words(t: &mut [Word], image: &[u8])
 // laid out exactly if the image is malformed, so refusal 2 of the check is 12.
 pub fn read_through(t: &mut [Word], work: &mut [Word], image: &[u8]) -> u8
     requires { ⌜ Fitting (now t) (now image) × (now work ≡ replicate (length (now t)) 0) ⌝ }
-    ensures { λ r. ⌜ (r ≡ readAnswer (now (t .entry)) (now (image .entry))) × (now (t .exit) ≡ readWords (now (t .entry)) (now (image .entry))) ⌝ }
+    ensures { λ r. ⌜ ReadPromise (now (t .entry)) (now (image .entry)) r (now (t .exit)) ⌝ }
 {
     fill_words(work, image);
     let answer = check(work);

@@ -16,11 +16,11 @@ use Rattle.rdfs.proofs.Lists.{none-in}
 use Rattle.rdfs.proofs.LaidOut.{filled-before}
 use Rattle.rdfs.proofs.Steps.{checked-table}
 use Rattle.rdfs.proofs.Theorems.{product-sound}
-use Rattle.image.specs.Form.{form, largestFact, firstBody}
-use Rattle.image.specs.Reading.{wordsOf}
+use Rattle.contents.specs.Form.{form, largestFact, firstBody}
+use Rattle.contents.specs.Reading.{wordsOf}
 use Rattle.image.specs.Calls.{readAnswer, readWords}
 use Rattle.image.specs.Writing.{Writable}
-use Rattle.image.proofs.RoundTrip.{words-some}
+use Rattle.contents.proofs.RoundTrip.{words-some}
 use Rattle.image.proofs.Measuring.{image-small}
 use Rattle.image.proofs.Theorems.{read-writes}
 use Rattle.streams.specs.Input.{Begins}

@@ -6,8 +6,8 @@ use mathlib.Core.List.{List, [], _∷_, _++_}
 use lib.Dec.{eqb}
 use lib.ListN.{length, take, replicate}
 use Rattle.rdfs.specs.Numbers.{product}
-use Rattle.image.specs.Form.{form, largestFact, firstBody}
-use Rattle.image.specs.Reading.{wordsOf}
+use Rattle.contents.specs.Form.{form, largestFact, firstBody}
+use Rattle.contents.specs.Reading.{wordsOf}
 use Rattle.image.specs.Calls.{readAnswer}
 use Rattle.text.specs.Text.{Number}
 use Rattle.streams.specs.Input.{Begins}

@@ -14,7 +14,7 @@ use Rattle.image.specs.Calls.{readAnswer, readWords, writeAnswer, writeLength, 
 use Rattle.image.proofs.Theorems.{read-writes}
 use Rattle.ticket.specs.Answered.{Answered}
 use Rattle.ticket.specs.declared.Applied.{Applied}
-use Rattle.vimelosa.specs.Host.{packed, refusedElse, room, applied, hostAnswer, hostOutput}
+use Rattle.vimelosa.specs.Host.{packed, refusedElse, room, applied, hostAnswer, hostOutput, HostPromise}
 
 -- A refusal is the answer, and for 0 what comes after; the bytes likewise.
 pub refused-is : (n rest : ℕ) → (n ≡ 0 → ⊥) → refusedElse n rest ≡ packed n 0 0 0
@@ -23,15 +23,11 @@ refused-is n rest h = ap (λ b. cond b rest (packed n 0 0 0)) (ne-eqb n 0 h)
 pub passed-is : (n rest : ℕ) → n ≡ 0 → refusedElse n rest ≡ rest
 passed-is n rest e = ap (λ b. cond b rest (packed n 0 0 0)) (eq-eqb n 0 e)
 
-refused-keeps : (n : ℕ) (new old : List ℕ) → (n ≡ 0 → ⊥) → cond (eqb n 0) new old ≡ old
+pub refused-keeps : (n : ℕ) (new old : List ℕ) → (n ≡ 0 → ⊥) → cond (eqb n 0) new old ≡ old
 refused-keeps n new old h = ap (λ b. cond b new old) (ne-eqb n 0 h)
 
 pub passed-leaves : (n : ℕ) (new old : List ℕ) → n ≡ 0 → cond (eqb n 0) new old ≡ new
 passed-leaves n new old e = ap (λ b. cond b new old) (eq-eqb n 0 e)
-
--- What the call promises of its number r and of the bytes v that it leaves.
-abbrev pub Hosted : List ℕ → List ℕ → List ℕ → ℕ → List ℕ → Type 0
-Hosted image ticket output r v = (r ≡ hostAnswer image ticket output) × (v ≡ hostOutput image ticket output)
 
 -- Words that were read are a consistent table.
 pub read-table : (image : List ℕ) (n : ℕ) {w : List ℕ} → n ≡ readAnswer room image → n ≡ 0 → w ≡ readWords room image → Table product w
@@ -53,7 +49,8 @@ module _ (image ticket output : List ℕ) where
   abbrev later : ℕ
   later = refusedElse (writeAnswer (s .table) output) (packed 0 (s .added) (s .removed) (writeLength (s .table) output))
 
-  pub way-unread : (n r : ℕ) → n ≡ readAnswer room image → (n ≡ 0 → ⊥) → r ≡ packed n 0 0 0 → Hosted image ticket output r output
+  pub way-unread : (n r : ℕ) → n ≡ readAnswer room image → (n ≡ 0 → ⊥) → r ≡ packed n 0 0 0
+      → HostPromise image ticket output r output
   unfolding hostAnswer hostOutput
   way-unread n r e h p =
       let no : readAnswer room image ≡ 0 → ⊥ = λ z. h (e ∙ z) in
@@ -73,7 +70,7 @@ module _ (image ticket output : List ℕ) where
     unfolding hostOutput
     read-output = passed-leaves (readAnswer room image) (cond (eqb (s .number) 0) (writeBytes (s .table) output) output) output read
 
-    pub way-unapplied : (r : ℕ) → (a .answer ≡ 0 → ⊥) → r ≡ packed (a .answer) 0 0 0 → Hosted image ticket output r output
+    pub way-unapplied : (r : ℕ) → (a .answer ≡ 0 → ⊥) → r ≡ packed (a .answer) 0 0 0 → HostPromise image ticket output r output
     way-unapplied r h p =
         let no : s .number ≡ 0 → ⊥ = λ z. h (same .number ∙ z) in
         (p ∙ (ap (λ m. packed m 0 0 0) (same .number) ∙ (sym (refused-is (s .number) later no) ∙ sym read-answer)), sym (refused-keeps (s .number) (writeBytes (s .table) output) output no) ∙ sym read-output)
@@ -95,11 +92,11 @@ module _ (image ticket output : List ℕ) where
       abbrev counts : ℕ
       counts = packed 0 (s .added) (s .removed) (writeLength (s .table) output)
 
-      pub way-unwritten : (r : ℕ) → (n ≡ 0 → ⊥) → r ≡ packed n 0 0 0 → Hosted image ticket output r u
+      pub way-unwritten : (r : ℕ) → (n ≡ 0 → ⊥) → r ≡ packed n 0 0 0 → HostPromise image ticket output r u
       way-unwritten r h p =
           (p ∙ (ap (λ m. packed m 0 0 0) written ∙ (sym (refused-is (writeAnswer (s .table) output) counts (λ q. h (written ∙ q))) ∙ sym applied-answer)), left)
 
-      pub way-done : (r : ℕ) → n ≡ 0 → r ≡ packed 0 (a .added) (a .removed) l → Hosted image ticket output r u
+      pub way-done : (r : ℕ) → n ≡ 0 → r ≡ packed 0 (a .added) (a .removed) l → HostPromise image ticket output r u
       way-done r q p =
           let long : l ≡ writeLength (s .table) output = el ∙ ap (λ x. writeLength x output) (same .words) in
           let filled : packed 0 (a .added) (a .removed) l ≡ counts = λ i. packed 0 (same .added i) (same .removed i) (long i) in

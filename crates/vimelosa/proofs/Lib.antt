@@ -1,4 +1,6 @@
--- Host: each way through `vimelosa_apply`. Saved: what an accepted call leaves in the output. Theorems: what is proved beside its promise.
+-- Host: each way through `vimelosa_apply`. Saved: what its number says and what it leaves in the output. Theorems: what is proved
+-- from its promise. Tied: the contract in the source is that promise.
 pub mod Host
 pub mod Saved
 pub mod Theorems
+mod Tied

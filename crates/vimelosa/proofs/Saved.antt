@@ -1,4 +1,5 @@
--- What an accepted call leaves in the output, cut to the length that it answers: the image of what the ticket left. Assumes nothing.
+-- What the call's number says and what it leaves in the output. Refused: only the answer, and the bytes as they were. Accepted:
+-- the image of what the ticket left, in the length that it answers. Assumes nothing.
 use Prim.Native.Nat.{ℕ, _≤_, _<_}
 use mathlib.Core.Path.{_≡_, refl, sym, ap, subst, _∙_}
 use mathlib.Core.Bool.{Bool, true, false, not, cond}
@@ -7,8 +8,6 @@ use native.Mathlib.Omega.{arith}
 use native.Mathlib.Decide.{ℕ-discrete}
 use lib.Dec.{eqb, ltb, lit<}
 use lib.ListN.{length, take, drop}
-use lib.Seq.{take-at}
-use borrow.Author.Tests.{eq-eqb}
 use Rattle.rdfs.specs.Numbers.{product}
 use Rattle.rdfs.specs.Lists.{member}
 use Rattle.rdfs.specs.Words.{filled, facts, words}
@@ -18,11 +17,13 @@ use Rattle.rdfs.proofs.Filters.{filter-split}
 use Rattle.rdfs.proofs.Refusals.{new, passed}
 use Rattle.rdfs.proofs.Steps.{step-number, accepted-leaves, room-fits, step-length}
 use Rattle.table.proofs.Filled.{filled-within}
-use Rattle.image.specs.Form.{form}
-use Rattle.image.specs.Reading.{wordsOf, malformed}
+use Rattle.contents.specs.Form.{form}
+use Rattle.contents.specs.Reading.{wordsOf, malformed}
 use Rattle.image.specs.Calls.{tableImage, readAnswer, readWords, writeAnswer, writeLength, writeBytes}
 use Rattle.image.proofs.ReadCall.{read-length}
-use Rattle.vimelosa.specs.Host.{sixteenBits, packed, answerIn, lengthIn, refusedElse, room, applied, hostAnswer, hostOutput}
+use Rattle.image.proofs.WriteCall.{write-taken}
+use Rattle.vimelosa.specs.Host.{sixteenBits, packed, answerIn, addedIn, removedIn, lengthIn}
+use Rattle.vimelosa.specs.Host.{refusedElse, room, applied, hostAnswer, hostOutput}
 use Rattle.vimelosa.proofs.Host.{refused-is, passed-is, passed-leaves, read-table}
 
 -- A refusal fits its field.
@@ -37,8 +38,21 @@ accepted-passes n rest h e = elim (ℕ-discrete n 0) [
   | no q ↦ let own : n ≡ answerIn (packed n 0 0 0) = omega (arith, h) in absurd (q (own ∙ (ap answerIn (sym (refused-is n rest q)) ∙ e)))
 ]
 
+packed-answer : (a r l : ℕ) → answerIn (packed 0 a r l) ≡ 0
+packed-answer a r l = omega arith
+
 packed-length : (a r l : ℕ) → a < sixteenBits → r < sixteenBits → lengthIn (packed 0 a r l) ≡ l
 packed-length a r l p q = omega (arith, p, q)
+
+-- The bytes v are those that stood there, and a number r tells nothing but its answer.
+abbrev pub Kept : List ℕ → ℕ → List ℕ → Type 0
+Kept output r v = (v ≡ output) × (addedIn r ≡ 0) × (removedIn r ≡ 0) × (lengthIn r ≡ 0)
+
+-- One step: its refusal, or what comes after if there it is so.
+kept-else : (b : Bool) (n rest : ℕ) (new old : List ℕ) → n < sixteenBits → ((answerIn rest ≡ 0 → ⊥) → Kept old rest new)
+    → (answerIn (cond b rest (packed n 0 0 0)) ≡ 0 → ⊥) → Kept old (cond b rest (packed n 0 0 0)) (cond b new old)
+kept-else true n rest new old h k a = k a
+kept-else false n rest new old h k a = (refl, omega (arith, h), omega (arith, h), omega (arith, h))
 
 module _ (image ticket output : List ℕ) where
   abbrev s : Answer
@@ -106,11 +120,27 @@ module _ (image ticket output : List ℕ) where
     pub saved-image : take (lengthIn (hostAnswer image ticket output)) (hostOutput image ticket output) ≡ tableImage (s .table)
     unfolding hostOutput
     saved-image =
-        let out : List ℕ = tableImage (s .table) in
-        let yes-zero : eqb (writeAnswer (s .table) output) 0 ≡ true = eq-eqb (writeAnswer (s .table) output) 0 (a .write) in
-        let size : lengthIn (hostAnswer image ticket output) ≡ length out =
-        ap lengthIn (a .answer) ∙ (packed-length (s .added) (s .removed) (writeLength (s .table) output) (counts-small .0) (counts-small .1) ∙ ap (λ b. cond b (length out) 0) yes-zero) in
-        let left : hostOutput image ticket output ≡ out ++ drop (length out) output =
+        let n : ℕ = writeLength (s .table) output in
+        let size : lengthIn (hostAnswer image ticket output) ≡ n =
+        ap lengthIn (a .answer) ∙ packed-length (s .added) (s .removed) n (counts-small .0) (counts-small .1) in
+        let left : hostOutput image ticket output ≡ writeBytes (s .table) output =
         passed-leaves (readAnswer room image) (cond (eqb (s .number) 0) (writeBytes (s .table) output) output) output (a .read)
-        ∙ (passed-leaves (s .number) (writeBytes (s .table) output) output (a .number) ∙ ap (λ b. cond b (out ++ drop (length out) output) output) yes-zero) in
-        ap (λ n. take n (hostOutput image ticket output)) size ∙ (ap (take (length out)) left ∙ take-at out (drop (length out) output) (length out) refl)
+        ∙ passed-leaves (s .number) (writeBytes (s .table) output) output (a .number) in
+        ap (λ m. take m (hostOutput image ticket output)) size ∙ (ap (take n) left ∙ write-taken (s .table) output (a .write))
+
+  -- Refused by reading, by the ticket or by writing.
+  pub refused : (answerIn (hostAnswer image ticket output) ≡ 0 → ⊥)
+      → Kept output (hostAnswer image ticket output) (hostOutput image ticket output)
+  unfolding hostAnswer hostOutput
+  refused =
+      let n : ℕ = writeAnswer (s .table) output in
+      let long : ℕ = writeLength (s .table) output in
+      let counts : ℕ = packed 0 (s .added) (s .removed) long in
+      let later : ℕ = refusedElse n counts in
+      let out : List ℕ = tableImage (s .table) ++ drop (length (tableImage (s .table))) output in
+      let left : List ℕ = writeBytes (s .table) output in
+      let by-writing =
+      kept-else (eqb n 0) n counts out output write-small (λ h. absurd (h (packed-answer (s .added) (s .removed) long))) in
+      let by-ticket = kept-else (eqb (s .number) 0) (s .number) later left output number-small by-writing in
+      kept-else (eqb (readAnswer room image) 0) (readAnswer room image) (refusedElse (s .number) later)
+      (cond (eqb (s .number) 0) left output) output read-small by-ticket

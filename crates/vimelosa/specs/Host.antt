@@ -1,5 +1,6 @@
 -- What the host's call answers and what it leaves in the output, for all bytes: reading, a ticket, writing.
 use Prim.Native.Nat.{ℕ, _+_, _*_, _/_, _%_}
+use mathlib.Core.Path.{_≡_}
 use mathlib.Core.Bool.{cond}
 use mathlib.Core.List.{List}
 use lib.Dec.{eqb}
@@ -16,9 +17,15 @@ sixteenBits = 65536
 abbrev pub packed : ℕ → ℕ → ℕ → ℕ → ℕ
 packed answer added removed length = answer + sixteenBits * (added + sixteenBits * (removed + sixteenBits * length))
 
--- The answer and the image's length in such a number.
+-- The answer, the facts added, the facts removed and the image's length in such a number.
 abbrev pub answerIn : ℕ → ℕ
 answerIn r = r % sixteenBits
+
+abbrev pub addedIn : ℕ → ℕ
+addedIn r = r / sixteenBits % sixteenBits
+
+abbrev pub removedIn : ℕ → ℕ
+removedIn r = r / sixteenBits / sixteenBits % sixteenBits
 
 abbrev pub lengthIn : ℕ → ℕ
 lengthIn r = r / sixteenBits / sixteenBits / sixteenBits
@@ -46,3 +53,9 @@ unfoldable pub hostOutput : List ℕ → List ℕ → List ℕ → List ℕ
 hostOutput image ticket output =
     let s : Answer = applied image ticket in
     cond (eqb (readAnswer room image) 0) (cond (eqb (s .number) 0) (writeBytes (s .table) output) output) output
+
+-- The promise of the call, for all bytes of the three: the number r that it answers, and the bytes v that it
+-- leaves in the output.
+abbrev pub HostPromise : List ℕ → List ℕ → List ℕ → ℕ → List ℕ → Type 0
+HostPromise image ticket output r v =
+    (r ≡ hostAnswer image ticket output) × (v ≡ hostOutput image ticket output)

@@ -5,7 +5,7 @@
 //
 // The table that the image is read into is the call's own: 8 KB of stack, beside those of the steps. It is checked once, by reading.
 ghost use mathlib.Core.Path.{_≡_};
-ghost use Rattle.vimelosa.specs.Host.{packed, hostAnswer, hostOutput};
+ghost use Rattle.vimelosa.specs.Host.{packed, HostPromise};
 use image::read;
 use image::write_checked;
 use table::MOST;
@@ -26,7 +26,8 @@ fn pack(answer: u8, added: u16, removed: u16, length: u16) -> u64
 // facts removed and the image's length. Refused as the steps refuse, in their order, the last three are 0 and the output is as it was.
 #[no_mangle]
 pub extern "C" fn vimelosa_apply(image: &[u8], ticket: &[u8], output: &mut [u8]) -> u64
-    ensures { λ r. ⌜ (r ≡ hostAnswer (now (image .entry)) (now (ticket .entry)) (now (output .entry))) × (now (output .exit) ≡ hostOutput (now (image .entry)) (now (ticket .entry)) (now (output .entry))) ⌝ }
+    ensures { λ r. ⌜ HostPromise (now (image .entry)) (now (ticket .entry)) (now (output .entry)) r
+        (now (output .exit)) ⌝ }
 {
     let mut table: [Word; MOST] = [0; MOST];
     let refusal = read(&mut table, image);

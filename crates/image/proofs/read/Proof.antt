@@ -7,9 +7,9 @@ use lib.Seq.{length-take-le}
 use borrow.Author.Tests.{not-true, not-false}
 use Rattle.rdfs.specs.Numbers.{product}
 use Rattle.table.proofs.Answers.{decides-true, decides-false}
-use Rattle.image.specs.Form.{form}
-use Rattle.image.specs.Reading.{malformed}
-use Rattle.image.proofs.Product.{wrong-malformed}
+use Rattle.contents.specs.Form.{form}
+use Rattle.contents.specs.Reading.{malformed}
+use Rattle.contents.proofs.Product.{wrong-malformed}
 use Rattle.image.proofs.Held.{take-zeros}
 use Rattle.image.proofs.ReadCall.{size-most, read-refused, read-small, read-malformed, overfull-some, read-overfull}
 use borrow.Author.Needs.{needs}

@@ -1,8 +1,8 @@
 -- `reader::count_words`. The loop's invariant is `Passed`: as many words as the kinds passed have. The measure is the number of kinds left. Assumes nothing.
 use native.Mathlib.Omega.{arith}
 use Prim.Native.Nat.{_-_}
-use Rattle.image.specs.Form.{form}
-use Rattle.image.proofs.ImageAgain.{contents-within}
+use Rattle.contents.specs.Form.{form}
+use Rattle.contents.proofs.ImageAgain.{contents-within}
 use Rattle.image.proofs.Filling.{Passed, passed-start, passed-more, passed-all}
 use Rattle.image.proofs.reader.count_words.Statement.{statement}
 use Rattle.image.proofs.reader.count_words.Tie as tie

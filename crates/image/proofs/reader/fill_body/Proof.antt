@@ -2,7 +2,7 @@
 use native.Mathlib.Omega.{arith}
 use Prim.Native.Nat.{_-_}
 use Rattle.image.proofs.Filling.{Stored, stored-start, stored-length, stored-more, stored-end}
-use Rattle.image.proofs.Places.{fact-within}
+use Rattle.contents.proofs.Places.{fact-within}
 use borrow.Author.Needs.{needs}
 use Rattle.image.proofs.reader.fill_body.Statement.{statement}
 use Rattle.image.proofs.reader.fill_body.Tie as tie

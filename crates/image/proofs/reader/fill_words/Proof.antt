@@ -1,8 +1,8 @@
 -- `reader::fill_words`. The loop's invariant is `Filled`: the words of the kinds passed stand in their places. The measure is the number of kinds left. Assumes nothing.
 use native.Mathlib.Omega.{arith}
 use Prim.Native.Nat.{_-_, _+_}
-use Rattle.image.specs.Form.{form}
-use Rattle.image.proofs.ImageAgain.{contents-within, body-placed}
+use Rattle.contents.specs.Form.{form}
+use Rattle.contents.proofs.ImageAgain.{contents-within, body-placed}
 use Rattle.image.proofs.Filled.{Filled, filled-start, filled-length, filled-room, filled-more, filled-all}
 use Rattle.image.proofs.reader.fill_words.Statement.{statement}
 use Rattle.image.proofs.reader.fill_words.Tie as tie

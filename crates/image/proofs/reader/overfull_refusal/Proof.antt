@@ -3,7 +3,7 @@ use native.Mathlib.Omega.{arith}
 use mathlib.Core.Path.{sym, ap, _∙_}
 use mathlib.Core.Bool.{not}
 use Rattle.rdfs.specs.Register.{orElse}
-use Rattle.image.proofs.Product.{right-malformed}
+use Rattle.contents.proofs.Product.{right-malformed}
 use borrow.Author.Needs.{needs}
 use Rattle.image.proofs.reader.overfull_refusal.Statement.{statement}
 use Rattle.image.proofs.reader.overfull_refusal.Tie as tie

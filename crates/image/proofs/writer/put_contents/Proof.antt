@@ -7,8 +7,8 @@ use lib.ListN.{take, length-set}
 use Rattle.rdfs.specs.Words.{filled}
 use Rattle.table.specs.Found.{below}
 use Rattle.table.specs.Parts.{wordOf}
-use Rattle.image.specs.Form.{form}
-use Rattle.image.proofs.Linking.{product-small}
+use Rattle.contents.specs.Form.{form}
+use Rattle.contents.proofs.Linking.{product-small}
 use Rattle.image.proofs.KindCount.{kind-first, kind-order, kind-found}
 use Rattle.image.proofs.Measuring.{image-whole, image-small, measured-within}
 use Rattle.image.proofs.PutParts.{Entered, entered-start, entered-length, entered-more, entered-done}

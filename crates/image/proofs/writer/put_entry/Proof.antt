@@ -4,7 +4,7 @@ use mathlib.Core.Path.{ap, _∙_}
 use mathlib.Core.List.{List, [], _∷_}
 use Prim.Native.Nat.{ℕ, _+_, _/_, _%_}
 use lib.ListN.{length, set, length-set}
-use Rattle.image.specs.Form.{form, entryAt}
+use Rattle.contents.specs.Form.{form, entryAt}
 use Rattle.image.specs.Writing.{over}
 use Rattle.image.proofs.Overlaid.{six-stores}
 use borrow.Author.Needs.{needs}
