@@ -5,10 +5,10 @@ use mathlib.Core.List.{List}
 use native.Mathlib.Omega.{arith}
 use lib.Dec.{lit≤}
 use Rattle.rdfs.specs.Rules.{Rule, Meets, r4, r5, r6, r7, r8, r9, r10, r11, r12, r13, r14, r15, r16, r17, r18, r19, r20, r21, r22, r23, r24, r25, r26, r27, h1, h2, h3, h4}
-use Rattle.consistency.specs.Runs.{FactWords}
-use Rattle.consistency.specs.Graphs.{Stands, graphOf, Each}
-use Rattle.consistency.specs.Asked.{startKind, Asks}
-use Rattle.consistency.proofs.Passed.{each-fact, fact-each, fact-each-two, fact-each-one}
+use Rattle.runs.specs.Runs.{FactWords}
+use Rattle.runs.specs.Graphs.{Stands, graphOf, Each}
+use Rattle.runs.specs.Asked.{startKind, Asks}
+use Rattle.runs.proofs.Passed.{each-fact, fact-each, fact-each-two, fact-each-one}
 
 -- What a rule asks of each word of its kind.
 abbrev AsksEach : List ℕ → Rule → Type 0

@@ -66,3 +66,8 @@ pub data FirstBroken (G : Graph) (r : Rule) : List Rule → Type 0 where
 abbrev pub Answers : Graph → List Rule → Visited → Type 0
 Answers G l AllMet = MeetsAll G l
 Answers G l (Broken q) = FirstBroken G (ruleOf q) l
+
+-- Document 01's number for each answer to a visit of all rules: 0 if the table is consistent, else refusal 3.
+abbrev pub numberOf : Visited → ℕ
+numberOf AllMet = 0
+numberOf (Broken q) = 3

@@ -1,10 +1,10 @@
 // The rules one by one, each with its own pass over words with an index.
 use crate::Rule;
 use crate::each::all_meet;
-use crate::marks::all_carried;
-use crate::marks::all_subjects;
-use crate::present::has_least;
-use crate::values::all_inherited;
+use runs::all_carried;
+use runs::all_inherited;
+use runs::all_subjects;
+use runs::has_least;
 use table::CLASS;
 use table::DOMAIN;
 use table::INDIVIDUAL;
@@ -19,9 +19,9 @@ use table::VALUE;
 use table::Word;
 ghost use Rattle.rdfs.specs.Rules.{Meets};
 ghost use Rattle.table.specs.Answers.{Decides};
-ghost use Rattle.consistency.specs.Runs.{Indexed};
-ghost use Rattle.consistency.specs.Graphs.{graphOf};
-ghost use Rattle.consistency.specs.Earlier.{Earlier};
+ghost use Rattle.runs.specs.Runs.{Indexed};
+ghost use Rattle.runs.specs.Graphs.{graphOf};
+ghost use Rattle.runs.specs.Earlier.{Earlier};
 ghost use Rattle.consistency.specs.Order.{ruleOf};
 
 // Whether a rule is met. What the rules before it have shown is required where its test relies on it.

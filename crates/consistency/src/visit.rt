@@ -6,8 +6,8 @@ use table::Word;
 ghost use mathlib.Core.Path.{_≡_};
 ghost use Prim.Native.Nat.{_<_};
 ghost use lib.ListN.{length};
-ghost use Rattle.consistency.specs.Runs.{Indexed};
-ghost use Rattle.consistency.specs.Graphs.{graphOf};
+ghost use Rattle.runs.specs.Runs.{Indexed};
+ghost use Rattle.runs.specs.Graphs.{graphOf};
 ghost use Rattle.consistency.specs.Order.{ruleOf, ruleAt, rulesInOrder, Answers};
 
 const RULES: usize = 28;

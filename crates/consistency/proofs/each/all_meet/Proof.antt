@@ -7,12 +7,12 @@ use borrow.Author.Needs.{needs}
 use denote.Ref.{now}
 use Rattle.rdfs.specs.Rules.{Rule}
 use Rattle.table.specs.Parts.{firstOf, secondOf, thirdOf}
-use Rattle.consistency.specs.Runs.{at}
-use Rattle.consistency.specs.Graphs.{graphOf}
-use Rattle.consistency.specs.Asked.{Asks}
+use Rattle.runs.specs.Runs.{at}
+use Rattle.runs.specs.Graphs.{graphOf}
+use Rattle.runs.specs.Asked.{Asks}
 use Rattle.consistency.specs.Order.{ruleOf}
-use Rattle.consistency.proofs.Decided.{decided-met, decided-broken}
-use Rattle.consistency.proofs.Passed.{Passed, passed-none, passed-more, passed-end}
+use Rattle.runs.proofs.Decided.{decided-met, decided-broken}
+use Rattle.runs.proofs.Passed.{Passed, passed-none, passed-more, passed-end}
 use Rattle.consistency.proofs.Meeting.{asked-meets, meets-asked}
 use Rattle.consistency.proofs.each.all_meet.Statement.{statement}
 use Rattle.consistency.proofs.each.all_meet.Tie as tie

@@ -4,9 +4,9 @@ use Prim.Native.Nat.{ℕ}
 use mathlib.Core.Path.{_≡_}
 use borrow.Author.Needs.{needs}
 use Rattle.consistency.specs.declared.Rule.{Rule}
-use Rattle.consistency.specs.Asked.{startKind}
+use Rattle.runs.specs.Asked.{startKind}
 use Rattle.consistency.specs.Order.{ruleOf}
-use Rattle.consistency.proofs.Decided.{decides-as}
+use Rattle.runs.proofs.Decided.{decides-as}
 use Rattle.consistency.proofs.rules.meets.Statement.{statement}
 use Rattle.consistency.proofs.rules.meets.Tie as tie
 
