@@ -4,14 +4,15 @@ ghost use lib.Dec.{T};
 ghost use Rattle.rdfs.specs.Numbers.{product};
 ghost use Rattle.rdfs.specs.Facts.{csub};
 ghost use Rattle.rdfs.specs.Words.{fact, isFact, facts};
-ghost use Rattle.rdfs.specs.Deletion.{leads, under, between, fallsWithClass};
+ghost use Rattle.rdfs.specs.Deletion.{leads, under};
 ghost use Rattle.table.specs.Counted.{Counted};
-ghost use Rattle.deletion.specs.Marks.{marked, Whole, Adds};
+ghost use Rattle.marks.specs.Marks.{marked, Whole, Adds};
 ghost use Rattle.deletion.specs.Gone.{marksOf, Blank, AllBlank, Led, MarksFor};
-use crate::marks::mark_between;
-use crate::marks::mark_leading;
-use crate::marks::mark_linked;
-use crate::marks::mark_under;
+use marks::mark_between;
+use marks::mark_leading;
+use marks::mark_linked;
+use marks::mark_under;
+use marks::mark_with_class;
 use table::CLASS;
 use table::DOMAIN;
 use table::INDIVIDUAL;
@@ -27,16 +28,6 @@ use table::first_of;
 use table::kind_of;
 use table::second_of;
 use table::third_of;
-
-// Marks class a and the properties with a as domain or range.
-fn mark_with_class<'a>(t: &'a [Word], n: usize, a: Word, ids: &mut [bool])
-    requires { ⌜ Counted (now t) n × (a ≤ product .top) × Whole (now ids) ⌝ }
-    ensures { λ _. ⌜ Adds (now (ids .entry)) (now (ids .exit)) (fallsWithClass (facts product (now (t .entry))) a) ⌝ }
-{
-    ids[a as usize] = true;
-    mark_linked(t, n, DOMAIN, a, ids);
-    mark_linked(t, n, RANGE, a, ids);
-}
 
 // Marks the properties whose domain, and those whose range, is one of the ids.
 fn mark_properties<'a>(

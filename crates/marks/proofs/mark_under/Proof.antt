@@ -1,13 +1,13 @@
--- `marks::mark_under`: b, then what has a link to b. Assumes nothing.
+-- `mark_under`: b, then what has a link to b. Assumes nothing.
 use mathlib.Core.Path.{_∙_}
 use mathlib.Core.Bool.{true}
 use native.Mathlib.Omega.{arith}
 use denote.Ref.{now}
 use lib.ListN.{length-set}
-use Rattle.deletion.proofs.Added.{adds-set, adds-twice}
+use Rattle.marks.proofs.Added.{adds-set, adds-twice}
 use borrow.Author.Needs.{needs}
-use Rattle.deletion.proofs.marks.mark_under.Statement.{statement}
-use Rattle.deletion.proofs.marks.mark_under.Tie as tie
+use Rattle.marks.proofs.mark_under.Statement.{statement}
+use Rattle.marks.proofs.mark_under.Tie as tie
 
 slice-write-marks : tie.Need-slice-write-marks
 slice-write-marks c = search needs

@@ -1,7 +1,7 @@
 // Marks set by the words of a run. Each mark stands for an id.
 ghost use Rattle.rdfs.specs.Lists.{any};
 ghost use lib.Seq.{slice};
-ghost use Rattle.deletion.specs.Marks.{Walked, firstAt, secondAt, Adds};
+ghost use Rattle.marks.specs.Marks.{Walked, firstAt, secondAt, Adds};
 use table::Word;
 use table::first_of;
 use table::second_of;

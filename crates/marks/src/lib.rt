@@ -1,17 +1,26 @@
-// Ids marked by the links, domains and ranges of a table: each function adds marks to those that are there.
+// Ids marked by the links, domains and ranges of a table.
+//
+// The functions serve the deletion. Each requires a table that is laid out with the number of its facts, ids
+// up to the highest, and a mark for each id; it adds marks to those that are there. The crate assumes
+// nothing.
 ghost use mathlib.Core.Bool.{_&&_};
 ghost use Rattle.rdfs.specs.Numbers.{product};
 ghost use Rattle.rdfs.specs.Facts.{made, has};
 ghost use Rattle.rdfs.specs.Words.{facts};
-ghost use Rattle.rdfs.specs.Deletion.{leads, under, between};
-ghost use Rattle.deletion.specs.Marks.{marked, Whole, Adds, Run};
+ghost use Rattle.rdfs.specs.Deletion.{leads, under, between, fallsWithClass};
+ghost use Rattle.table.specs.Counted.{Counted};
+ghost use Rattle.marks.specs.Marks.{marked, Whole, Adds, Run};
 ghost use Prim.Native.Nat.{_≤_};
-use crate::runs::mark_firsts;
-use crate::runs::mark_seconds;
+use runs::mark_firsts;
+use runs::mark_seconds;
+use table::DOMAIN;
+use table::RANGE;
 use table::TOP;
 use table::Word;
 use table::count_below;
 use table::word_of;
+
+mod runs;
 
 // A mark for each id.
 pub const IDS: usize = TOP as usize + 1;
@@ -71,4 +80,14 @@ pub fn mark_between<'a>(t: &'a [Word], n: usize, k: Word, a: Word, b: Word, mark
     mark_linked(t, n, k, b, &mut below);
     marks[a as usize] = true;
     mark_above(t, n, k, a, &below, marks);
+}
+
+// Marks class a and the properties with a as domain or range.
+pub fn mark_with_class<'a>(t: &'a [Word], n: usize, a: Word, ids: &mut [bool])
+    requires { ⌜ Counted (now t) n × (a ≤ product .top) × Whole (now ids) ⌝ }
+    ensures { λ _. ⌜ Adds (now (ids .entry)) (now (ids .exit)) (fallsWithClass (facts product (now (t .entry))) a) ⌝ }
+{
+    ids[a as usize] = true;
+    mark_linked(t, n, DOMAIN, a, ids);
+    mark_linked(t, n, RANGE, a, ids);
 }

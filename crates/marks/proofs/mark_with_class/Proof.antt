@@ -1,13 +1,13 @@
--- `gone::mark_with_class`: a, then what has a as domain, then what has a as range. Assumes nothing.
+-- `mark_with_class`: a, then what has a as domain, then what has a as range. Assumes nothing.
 use mathlib.Core.Path.{_∙_}
 use mathlib.Core.Bool.{true}
 use native.Mathlib.Omega.{arith}
 use denote.Ref.{now}
 use lib.ListN.{length-set}
-use Rattle.deletion.proofs.Added.{adds-set, adds-twice}
+use Rattle.marks.proofs.Added.{adds-set, adds-twice}
 use borrow.Author.Needs.{needs}
-use Rattle.deletion.proofs.gone.mark_with_class.Statement.{statement}
-use Rattle.deletion.proofs.gone.mark_with_class.Tie as tie
+use Rattle.marks.proofs.mark_with_class.Statement.{statement}
+use Rattle.marks.proofs.mark_with_class.Tie as tie
 
 slice-write-ids : tie.Need-slice-write-ids
 slice-write-ids c = search needs

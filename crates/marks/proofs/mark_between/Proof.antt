@@ -1,4 +1,4 @@
--- `marks::mark_between`: a, then what has a link from a and one to b. Assumes nothing.
+-- `mark_between`: a, then what has a link from a and one to b. Assumes nothing.
 use Prim.Native.Nat.{suc}
 use mathlib.Core.Path.{_∙_}
 use mathlib.Core.Bool.{true}
@@ -7,10 +7,10 @@ use denote.Ref.{now}
 use lib.ListN.{length-set}
 use Rattle.rdfs.specs.Numbers.{product}
 use Rattle.rdfs.specs.Words.{facts}
-use Rattle.deletion.proofs.Added.{adds-set, adds-none, says-none, between-adds}
+use Rattle.marks.proofs.Added.{adds-set, adds-none, says-none, between-adds}
 use borrow.Author.Needs.{needs}
-use Rattle.deletion.proofs.marks.mark_between.Statement.{statement}
-use Rattle.deletion.proofs.marks.mark_between.Tie as tie
+use Rattle.marks.proofs.mark_between.Statement.{statement}
+use Rattle.marks.proofs.mark_between.Tie as tie
 
 slice-aggregate-mark-linked : tie.Need-slice-aggregate-mark-linked
 slice-aggregate-mark-linked c = search needs

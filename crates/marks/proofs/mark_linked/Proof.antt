@@ -1,12 +1,12 @@
--- `marks::mark_linked`: b is the one target. Assumes nothing.
+-- `mark_linked`: b is the one target. Assumes nothing.
 use Prim.Native.Nat.{suc}
 use denote.Ref.{now}
 use Rattle.rdfs.specs.Numbers.{product}
 use Rattle.rdfs.specs.Words.{facts}
-use Rattle.deletion.proofs.Added.{says-one, linked-adds}
+use Rattle.marks.proofs.Added.{says-one, linked-adds}
 use borrow.Author.Needs.{needs}
-use Rattle.deletion.proofs.marks.mark_linked.Statement.{statement}
-use Rattle.deletion.proofs.marks.mark_linked.Tie as tie
+use Rattle.marks.proofs.mark_linked.Statement.{statement}
+use Rattle.marks.proofs.mark_linked.Tie as tie
 
 array-write-one : tie.Need-array-write-one
 array-write-one c = search needs
