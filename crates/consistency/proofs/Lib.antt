@@ -1,6 +1,5 @@
--- Meeting: `all_meet`. Visiting: `visit`. Listed, Linked, Same: `first_broken`. Refused: `check` and the crates above.
+-- Visiting: `visit`. Listed, Linked, Same: `first_broken`. Refused: `check` and the crates above.
 mod Listed
-mod Meeting
 mod Visiting
 mod Same
 mod Linked

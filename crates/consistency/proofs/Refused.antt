@@ -18,9 +18,10 @@ use Rattle.table.specs.Calls.{lookupAnswer}
 use Rattle.table.proofs.Answers.{is-true, is-false}
 use Rattle.table.proofs.Sizes.{tests-size}
 use Rattle.table.proofs.Calls.{taken-laid}
+use Rattle.rules.specs.RuleOf.{ruleOf}
 use Rattle.consistency.specs.declared.Visited.{Visited}
 use Rattle.consistency.specs.declared.Visited.the-variants.{AllMet, Broken}
-use Rattle.consistency.specs.Order.{rulesInOrder, MeetsAll, Answers, ruleOf, numberOf}
+use Rattle.consistency.specs.Order.{rulesInOrder, MeetsAll, Answers, numberOf}
 use Rattle.consistency.proofs.Visiting.{all-consistent, consistent-all, broken-not}
 
 -- Refusals 1 and 2 come first.

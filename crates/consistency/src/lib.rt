@@ -3,10 +3,9 @@
 // The public call is `check`. It has no `requires`: it says, for all inputs, what it answers; it writes
 // nothing. `first_broken` serves the crates above, and names the rule on a table that is laid out. The crate
 // assumes nothing. A call takes the stack of the index and of a run's marks, and some hundred bytes.
-mod each;
-mod rules;
 mod visit;
 
+pub use rules::Rule;
 use runs::RUNS;
 use runs::fill_index;
 use table::Word;
@@ -25,38 +24,6 @@ ghost use Rattle.consistency.specs.Order.{rulesInOrder, Answers, numberO
 
 // Refusal 3: a table not consistent.
 pub const INCONSISTENT: u8 = 3;
-
-// The rules by their numbers in Fig. 3, and H1 to H4 of document 01.
-pub enum Rule {
-    R4,
-    R5,
-    R6,
-    R7,
-    R8,
-    R9,
-    R10,
-    R11,
-    R12,
-    R13,
-    R14,
-    R15,
-    R16,
-    R17,
-    R18,
-    R19,
-    R20,
-    R21,
-    R22,
-    R23,
-    R24,
-    R25,
-    R26,
-    R27,
-    H1,
-    H2,
-    H3,
-    H4,
-}
 
 // What a visit of some rules, one after another, finds.
 pub enum Visited {

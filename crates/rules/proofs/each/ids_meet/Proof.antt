@@ -2,8 +2,8 @@
 -- rule, so does the contract. Assumes nothing.
 use native.Mathlib.Omega.{arith}
 use borrow.Author.Needs.{needs}
-use Rattle.consistency.proofs.each.ids_meet.Statement.{statement}
-use Rattle.consistency.proofs.each.ids_meet.Tie as tie
+use Rattle.rules.proofs.each.ids_meet.Statement.{statement}
+use Rattle.rules.proofs.each.ids_meet.Tie as tie
 
 pub ids-meet-spec : {M : Type 1} → statement M
 ids-meet-spec =

@@ -10,12 +10,12 @@ use Rattle.table.specs.Parts.{firstOf, secondOf, thirdOf}
 use Rattle.runs.specs.Runs.{at}
 use Rattle.runs.specs.Graphs.{graphOf}
 use Rattle.runs.specs.Asked.{Asks}
-use Rattle.consistency.specs.Order.{ruleOf}
+use Rattle.rules.specs.RuleOf.{ruleOf}
 use Rattle.runs.proofs.Decided.{decided-met, decided-broken}
 use Rattle.runs.proofs.Passed.{Passed, passed-none, passed-more, passed-end}
-use Rattle.consistency.proofs.Meeting.{asked-meets, meets-asked}
-use Rattle.consistency.proofs.each.all_meet.Statement.{statement}
-use Rattle.consistency.proofs.each.all_meet.Tie as tie
+use Rattle.rules.proofs.Meeting.{asked-meets, meets-asked}
+use Rattle.rules.proofs.each.all_meet.Statement.{statement}
+use Rattle.rules.proofs.each.all_meet.Tie as tie
 
 -- What the rule asks of the word at place i.
 abbrev Asked : List ℕ → Rule → ℕ → Type 0

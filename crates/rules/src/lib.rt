@@ -1,6 +1,8 @@
-// The rules one by one, each with its own pass over words with an index.
-use crate::Rule;
-use crate::each::all_meet;
+// The rules one by one, each with its own pass over the words of a table with the index of their runs.
+//
+// `meets` serves the check of a table. What the rules before one show is required where its test relies on
+// it. Nothing is written. The crate assumes nothing.
+use each::all_meet;
 use runs::all_carried;
 use runs::all_inherited;
 use runs::all_subjects;
@@ -22,7 +24,41 @@ ghost use Rattle.table.specs.Answers.{Decides};
 ghost use Rattle.runs.specs.Runs.{Indexed};
 ghost use Rattle.runs.specs.Graphs.{graphOf};
 ghost use Rattle.runs.specs.Earlier.{Earlier};
-ghost use Rattle.consistency.specs.Order.{ruleOf};
+ghost use Rattle.rules.specs.RuleOf.{ruleOf};
+
+mod each;
+
+// The rules by their numbers in Fig. 3, and H1 to H4 of document 01.
+pub enum Rule {
+    R4,
+    R5,
+    R6,
+    R7,
+    R8,
+    R9,
+    R10,
+    R11,
+    R12,
+    R13,
+    R14,
+    R15,
+    R16,
+    R17,
+    R18,
+    R19,
+    R20,
+    R21,
+    R22,
+    R23,
+    R24,
+    R25,
+    R26,
+    R27,
+    H1,
+    H2,
+    H3,
+    H4,
+}
 
 // Whether a rule is met. What the rules before it have shown is required where its test relies on it.
 pub fn meets<'a>(t: &'a [Word], s: &'a [u16], rule: Rule) -> bool

@@ -37,7 +37,7 @@ ghost use Rattle.runs.specs.Runs.{Indexed};
 ghost use Rattle.runs.specs.Graphs.{Id, graphOf};
 ghost use Rattle.runs.specs.Asked.{startKind, Asks};
 ghost use Rattle.runs.specs.Earlier.{Earlier};
-ghost use Rattle.consistency.specs.Order.{ruleOf};
+ghost use Rattle.rules.specs.RuleOf.{ruleOf};
 
 // Whether the ids of one word are as a rule asks. Rules 18, 20, 24, 26, 27 and H1 ask nothing of single words.
 fn ids_meet<'a>(t: &'a [Word], s: &'a [u16], rule: Rule, a: Word, b: Word, c: Word) -> bool

@@ -1,14 +1,14 @@
--- `rules::meets` meets its contract: in each arm the rule is known, and the arm's pass is exact for it. A row for each arm has what the match
--- tells and what the pass requires; the answers follow. Assumes nothing.
+-- `meets` meets its contract: in each arm the rule is known, and the arm's pass is exact for it. A row for each arm has what the
+-- match tells and what the pass requires; the answers follow. Assumes nothing.
 use Prim.Native.Nat.{ℕ}
 use mathlib.Core.Path.{_≡_}
 use borrow.Author.Needs.{needs}
-use Rattle.consistency.specs.declared.Rule.{Rule}
+use Rattle.rules.specs.declared.Rule.{Rule}
 use Rattle.runs.specs.Asked.{startKind}
-use Rattle.consistency.specs.Order.{ruleOf}
+use Rattle.rules.specs.RuleOf.{ruleOf}
 use Rattle.runs.proofs.Decided.{decides-as}
-use Rattle.consistency.proofs.rules.meets.Statement.{statement}
-use Rattle.consistency.proofs.rules.meets.Tie as tie
+use Rattle.rules.proofs.meets.Statement.{statement}
+use Rattle.rules.proofs.meets.Tie as tie
 
 -- The kind of a rule that is known.
 started : (rule r : Rule) (k : ℕ) → rule ≡ r → startKind (ruleOf r) ≡ k → startKind (ruleOf rule) ≡ k
