@@ -5,9 +5,10 @@ ghost use Rattle.rdfs.specs.Numbers.{product};
 ghost use Rattle.rdfs.specs.Facts.{csub};
 ghost use Rattle.rdfs.specs.Words.{fact, isFact, facts};
 ghost use Rattle.rdfs.specs.Deletion.{leads, under};
+ghost use Rattle.table.specs.Parts.{kindOf};
 ghost use Rattle.table.specs.Counted.{Counted};
 ghost use Rattle.marks.specs.Marks.{marked, Whole, Adds};
-ghost use Rattle.deletion.specs.Gone.{marksOf, Blank, AllBlank, Led, MarksFor};
+ghost use Rattle.deletion.specs.Gone.{marksOf, Blank, AllBlank, Led, MarksFor, NoClassLink, ByIds};
 use marks::mark_between;
 use marks::mark_leading;
 use marks::mark_linked;
@@ -81,6 +82,22 @@ fn mark_for_member<'a>(
     mark_properties(t, n, ids, domains, ranges);
 }
 
+// The marks for the fact of the word d, neither CSub nor CI. They are ids alone.
+fn mark_ids<'a>(t: &'a [Word], n: usize, d: Word, ids: &mut [bool])
+    requires { ⌜ Counted (now t) n × T (isFact product d) × NoClassLink (kindOf d) × Blank (now ids) ⌝ }
+    ensures { λ _. ⌜ ByIds (facts product (now (t .entry))) (fact (product .base) d) (now (ids .exit)) ⌝ }
+{
+    let k = kind_of(d);
+    let a = first_of(d);
+    match k {
+        CLASS => mark_with_class(t, n, a, ids),
+        PROPERTY | INDIVIDUAL | LITERAL => ids[a as usize] = true,
+        SUBPROPERTY => mark_between(t, n, SUBPROPERTY, a, second_of(d), ids),
+        VALUE => mark_under(t, n, SUBPROPERTY, third_of(d), ids),
+        _ => {}
+    }
+}
+
 // The marks for the fact of the word d.
 pub fn mark_gone<'a>(
     t: &'a [Word],
@@ -96,15 +113,13 @@ pub fn mark_gone<'a>(
     ensures { λ _. ⌜ MarksFor (facts product (now (t .entry))) (fact (product .base) d) (marksOf (now (ids .exit)) (now (domains .exit)) (now (ranges .exit)) (now («b_domains» .exit)) (now («b_ranges» .exit))) ⌝ }
 {
     let k = kind_of(d);
-    let a = first_of(d);
-    let b = second_of(d);
-    match k {
-        CLASS => mark_with_class(t, n, a, ids),
-        PROPERTY | INDIVIDUAL | LITERAL => ids[a as usize] = true,
-        SUBCLASS => mark_for_class_link(t, n, a, b, ids, domains, ranges, b_domains, b_ranges),
-        SUBPROPERTY => mark_between(t, n, SUBPROPERTY, a, b, ids),
-        MEMBER => mark_for_member(t, n, b, ids, domains, ranges),
-        VALUE => mark_under(t, n, SUBPROPERTY, third_of(d), ids),
-        _ => {}
+    if k == SUBCLASS {
+        let a = first_of(d);
+        let b = second_of(d);
+        mark_for_class_link(t, n, a, b, ids, domains, ranges, b_domains, b_ranges);
+    } else if k == MEMBER {
+        mark_for_member(t, n, second_of(d), ids, domains, ranges);
+    } else {
+        mark_ids(t, n, d, ids);
     }
 }
