@@ -16,8 +16,8 @@ use Rattle.rdfs.proofs.LaidOut.{laid-is-fact, laid-ascending, laid-allowed, lai
 use Rattle.rdfs.proofs.Allowed.{fields}
 use Rattle.table.proofs.Parts.{tests-fact}
 use Rattle.table.proofs.Filled.{at-in, counted-filled, counted-ascending}
-use Rattle.consistency.specs.Runs.{at, FactWord, FactWords}
-use Rattle.consistency.specs.Graphs.{graphOf}
+use Rattle.runs.specs.Runs.{at, FactWord, FactWords}
+use Rattle.runs.specs.Graphs.{graphOf}
 use Rattle.consistency.proofs.Listed.{in-has, has-in, ascending-rises}
 
 module _ (w : List ℕ) (t : T (laidOut product 1 w)) where

@@ -1,6 +1,6 @@
 -- The check's answer from the refusals of the layout and the visit of the rules. Assumes nothing.
 use Prim.Native.Nat.{ℕ, _≤_}
-use mathlib.Core.Path.{_≡_, refl, sym, ap, subst, _∙_}
+use mathlib.Core.Path.{_≡_, refl, sym, ap, _∙_}
 use mathlib.Core.Bool.{Bool, true, false, not}
 use mathlib.Core.Logic.{inr}
 use mathlib.Core.List.{List}
@@ -18,10 +18,10 @@ use Rattle.table.specs.Calls.{lookupAnswer}
 use Rattle.table.proofs.Answers.{is-true, is-false}
 use Rattle.table.proofs.Sizes.{tests-size}
 use Rattle.table.proofs.Calls.{taken-laid}
+use Rattle.rules.specs.RuleOf.{ruleOf}
 use Rattle.consistency.specs.declared.Visited.{Visited}
 use Rattle.consistency.specs.declared.Visited.the-variants.{AllMet, Broken}
-use Rattle.consistency.specs.declared.Rule as code
-use Rattle.consistency.specs.Order.{rulesInOrder, Answers, ruleOf}
+use Rattle.consistency.specs.Order.{rulesInOrder, MeetsAll, Answers, numberOf}
 use Rattle.consistency.proofs.Visiting.{all-consistent, consistent-all, broken-not}
 
 -- Refusals 1 and 2 come first.
@@ -65,17 +65,15 @@ module _ (w : List ℕ) (a : ℕ) (e : a ≡ lookupAnswer w) where
     by-rules : (b : Bool) → inconsistent product w ≡ b → orElse b 3 0 ≡ tableRefusal product w 0
     by-rules b q = sym (past-two (badSize product w) (badLayout product w) (orElse (inconsistent product w) 3 0) none ∙ ap (λ i. orElse i 3 0) q)
 
-    pub all-accepted : (v : Visited) → v ≡ AllMet → Answers (graph (facts product w)) rulesInOrder v → 0 ≡ tableRefusal product w 0
-    all-accepted v q m =
-        let G = graph (facts product w) in
-        let good : consistent? (facts product w) ≡ true = is-true (check-complete (facts product w) (all-consistent G (subst (Answers G rulesInOrder) q m))) in
+    pub past-number : (v : Visited) → Answers (graph (facts product w)) rulesInOrder v → numberOf v ≡ tableRefusal product w 0
+    past-number AllMet m =
+        let K = facts product w in
+        let good : consistent? K ≡ true = is-true (check-complete K (all-consistent (graph K) m)) in
         by-rules false (ap not good)
-
-    pub broken-refused : (v : Visited) (r : code.Rule) → v ≡ Broken r → Answers (graph (facts product w)) rulesInOrder v → 3 ≡ tableRefusal product w 0
-    broken-refused v r q f =
-        let G = graph (facts product w) in
-        let broken = subst (Answers G rulesInOrder) q f in
-        let bad : consistent? (facts product w) ≡ false = is-false (λ t. broken-not G rulesInOrder (ruleOf r) broken (consistent-all G (check-sound (facts product w) t))) in
+    past-number (Broken r) f =
+        let K = facts product w in
+        let met : T (consistent? K) → MeetsAll (graph K) rulesInOrder = λ t. consistent-all (graph K) (check-sound K t) in
+        let bad : consistent? K ≡ false = is-false (λ t. broken-not (graph K) rulesInOrder (ruleOf r) f (met t)) in
         by-rules true (ap not bad)
 
 pub refused-laid : (w : List ℕ) → 3 ≡ tableRefusal product w 0 → T (laidOut product 1 w) × (length w ≤ product .most)

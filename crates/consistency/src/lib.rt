@@ -1,21 +1,11 @@
 // The check of a lent table: refusals 1, 2 and 3, the rules visited one by one in the order of Fig. 3.
 //
-// The public call is `check`. It has no `requires`: it says, for all inputs, what it answers; it writes nothing. `first_broken` serves the
-// crates above, and names the rule on a table that is laid out. The crate assumes nothing.
-//
-// The index of runs takes 5,632 bytes of stack, two for each of 11 times 256 runs, the marks of a run 512, and the rest of a call some hundred.
-// With ids up to 4,095 the index would take 90,112 and the marks 8,192.
-mod each;
-mod marks;
-mod merge;
-mod present;
-mod rules;
-mod runs;
-mod schema;
-mod typing;
-mod values;
+// The public call is `check`. It has no `requires`: it says, for all inputs, what it answers; it writes
+// nothing. `first_broken` serves the crates above, and names the rule on a table that is laid out. The crate
+// assumes nothing. A call takes the stack of the index and of a run's marks, and some hundred bytes.
 mod visit;
 
+pub use rules::Rule;
 use runs::RUNS;
 use runs::fill_index;
 use table::Word;
@@ -30,42 +20,10 @@ ghost use Rattle.rdfs.specs.Numbers.{product};
 ghost use Rattle.rdfs.specs.Facts.{graph};
 ghost use Rattle.rdfs.specs.Words.{laidOut, facts};
 ghost use Rattle.rdfs.specs.Register.{tableRefusal};
-ghost use Rattle.consistency.specs.Order.{rulesInOrder, Answers};
+ghost use Rattle.consistency.specs.Order.{rulesInOrder, Answers, numberOf};
 
 // Refusal 3: a table not consistent.
 pub const INCONSISTENT: u8 = 3;
-
-// The rules by their numbers in Fig. 3, and H1 to H4 of document 01.
-pub enum Rule {
-    R4,
-    R5,
-    R6,
-    R7,
-    R8,
-    R9,
-    R10,
-    R11,
-    R12,
-    R13,
-    R14,
-    R15,
-    R16,
-    R17,
-    R18,
-    R19,
-    R20,
-    R21,
-    R22,
-    R23,
-    R24,
-    R25,
-    R26,
-    R27,
-    H1,
-    H2,
-    H3,
-    H4,
-}
 
 // What a visit of some rules, one after another, finds.
 pub enum Visited {
@@ -87,6 +45,16 @@ pub fn first_broken(t: &[Word]) -> Visited
     visit(words, &s)
 }
 
+// The check's answer after a visit of all rules.
+fn answer_of(visited: Visited) -> u8
+    ensures { λ r. ⌜ r ≡ numberOf visited ⌝ }
+{
+    match visited {
+        Visited::AllMet => 0,
+        Visited::Broken(_) => INCONSISTENT,
+    }
+}
+
 // The first of refusals 1, 2 and 3 whose condition holds, or 0: the table is laid out and consistent.
 pub fn check(t: &[Word]) -> u8
     ensures { λ r. ⌜ r ≡ tableRefusal product (now (t .entry)) 0 ⌝ }
@@ -96,8 +64,5 @@ pub fn check(t: &[Word]) -> u8
         return answer;
     }
     let visited = first_broken(t);
-    match visited {
-        Visited::AllMet => 0,
-        Visited::Broken(_) => INCONSISTENT,
-    }
+    answer_of(visited)
 }

@@ -1,14 +1,15 @@
 // The visit of the rules one by one, in the order of Fig. 3, then H1 to H4. It gets past each exactly if it is met.
-use crate::Rule;
 use crate::Visited;
-use crate::rules::meets;
+use rules::Rule;
+use rules::meets;
 use table::Word;
 ghost use mathlib.Core.Path.{_≡_};
 ghost use Prim.Native.Nat.{_<_};
 ghost use lib.ListN.{length};
-ghost use Rattle.consistency.specs.Runs.{Indexed};
-ghost use Rattle.consistency.specs.Graphs.{graphOf};
-ghost use Rattle.consistency.specs.Order.{ruleOf, ruleAt, rulesInOrder, Answers};
+ghost use Rattle.runs.specs.Runs.{Indexed};
+ghost use Rattle.runs.specs.Graphs.{graphOf};
+ghost use Rattle.rules.specs.RuleOf.{ruleOf};
+ghost use Rattle.consistency.specs.Order.{ruleAt, rulesInOrder, Answers};
 
 const RULES: usize = 28;
 

@@ -1,4 +1,3 @@
 pub mod Asked
-pub mod Marks
 pub mod Gone
 pub mod Kept

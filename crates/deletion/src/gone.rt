@@ -4,14 +4,16 @@ ghost use lib.Dec.{T};
 ghost use Rattle.rdfs.specs.Numbers.{product};
 ghost use Rattle.rdfs.specs.Facts.{csub};
 ghost use Rattle.rdfs.specs.Words.{fact, isFact, facts};
-ghost use Rattle.rdfs.specs.Deletion.{leads, under, between, fallsWithClass};
+ghost use Rattle.rdfs.specs.Deletion.{leads, under};
+ghost use Rattle.table.specs.Parts.{kindOf};
 ghost use Rattle.table.specs.Counted.{Counted};
-ghost use Rattle.deletion.specs.Marks.{marked, Whole, Adds};
-ghost use Rattle.deletion.specs.Gone.{marksOf, Blank, AllBlank, Led, MarksFor};
-use crate::marks::mark_between;
-use crate::marks::mark_leading;
-use crate::marks::mark_linked;
-use crate::marks::mark_under;
+ghost use Rattle.marks.specs.Marks.{marked, Whole, Adds};
+ghost use Rattle.deletion.specs.Gone.{marksOf, Blank, AllBlank, Led, MarksFor, NoClassLink, ByIds};
+use marks::mark_between;
+use marks::mark_leading;
+use marks::mark_linked;
+use marks::mark_under;
+use marks::mark_with_class;
 use table::CLASS;
 use table::DOMAIN;
 use table::INDIVIDUAL;
@@ -27,16 +29,6 @@ use table::first_of;
 use table::kind_of;
 use table::second_of;
 use table::third_of;
-
-// Marks class a and the properties with a as domain or range.
-fn mark_with_class<'a>(t: &'a [Word], n: usize, a: Word, ids: &mut [bool])
-    requires { ⌜ Counted (now t) n × (a ≤ product .top) × Whole (now ids) ⌝ }
-    ensures { λ _. ⌜ Adds (now (ids .entry)) (now (ids .exit)) (fallsWithClass (facts product (now (t .entry))) a) ⌝ }
-{
-    ids[a as usize] = true;
-    mark_linked(t, n, DOMAIN, a, ids);
-    mark_linked(t, n, RANGE, a, ids);
-}
 
 // Marks the properties whose domain, and those whose range, is one of the ids.
 fn mark_properties<'a>(
@@ -90,6 +82,22 @@ fn mark_for_member<'a>(
     mark_properties(t, n, ids, domains, ranges);
 }
 
+// The marks for the fact of the word d, neither CSub nor CI. They are ids alone.
+fn mark_ids<'a>(t: &'a [Word], n: usize, d: Word, ids: &mut [bool])
+    requires { ⌜ Counted (now t) n × T (isFact product d) × NoClassLink (kindOf d) × Blank (now ids) ⌝ }
+    ensures { λ _. ⌜ ByIds (facts product (now (t .entry))) (fact (product .base) d) (now (ids .exit)) ⌝ }
+{
+    let k = kind_of(d);
+    let a = first_of(d);
+    match k {
+        CLASS => mark_with_class(t, n, a, ids),
+        PROPERTY | INDIVIDUAL | LITERAL => ids[a as usize] = true,
+        SUBPROPERTY => mark_between(t, n, SUBPROPERTY, a, second_of(d), ids),
+        VALUE => mark_under(t, n, SUBPROPERTY, third_of(d), ids),
+        _ => {}
+    }
+}
+
 // The marks for the fact of the word d.
 pub fn mark_gone<'a>(
     t: &'a [Word],
@@ -105,15 +113,13 @@ pub fn mark_gone<'a>(
     ensures { λ _. ⌜ MarksFor (facts product (now (t .entry))) (fact (product .base) d) (marksOf (now (ids .exit)) (now (domains .exit)) (now (ranges .exit)) (now («b_domains» .exit)) (now («b_ranges» .exit))) ⌝ }
 {
     let k = kind_of(d);
-    let a = first_of(d);
-    let b = second_of(d);
-    match k {
-        CLASS => mark_with_class(t, n, a, ids),
-        PROPERTY | INDIVIDUAL | LITERAL => ids[a as usize] = true,
-        SUBCLASS => mark_for_class_link(t, n, a, b, ids, domains, ranges, b_domains, b_ranges),
-        SUBPROPERTY => mark_between(t, n, SUBPROPERTY, a, b, ids),
-        MEMBER => mark_for_member(t, n, b, ids, domains, ranges),
-        VALUE => mark_under(t, n, SUBPROPERTY, third_of(d), ids),
-        _ => {}
+    if k == SUBCLASS {
+        let a = first_of(d);
+        let b = second_of(d);
+        mark_for_class_link(t, n, a, b, ids, domains, ranges, b_domains, b_ranges);
+    } else if k == MEMBER {
+        mark_for_member(t, n, second_of(d), ids, domains, ranges);
+    } else {
+        mark_ids(t, n, d, ids);
     }
 }

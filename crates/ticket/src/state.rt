@@ -6,7 +6,7 @@ ghost use Rattle.rdfs.specs.Facts.{pr, has};
 ghost use Rattle.rdfs.specs.Tickets.{asked, unknownProperty, ticketOf};
 ghost use Rattle.table.specs.Counted.{Counted, Id, factsOf};
 ghost use Rattle.ticket.specs.Form.{Asked};
-use insertion::has_property;
+use clash::has_property;
 use table::PROPERTY;
 use table::SUBPROPERTY;
 use table::VALUE;

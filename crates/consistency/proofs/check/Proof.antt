@@ -1,7 +1,8 @@
 -- `check` meets its contract: the layout's refusals come first, then the visit decides consistency. Assumes nothing.
+use mathlib.Core.Path.{_∙_}
 use borrow.Author.Needs.{needs}
 use denote.Ref.{now}
-use Rattle.consistency.proofs.Refused.{refused-first, past-laid, past-fits, all-accepted, broken-refused}
+use Rattle.consistency.proofs.Refused.{refused-first, past-laid, past-fits, past-number}
 use Rattle.consistency.proofs.check.Statement.{statement}
 use Rattle.consistency.proofs.check.Tie as tie
 
@@ -12,34 +13,22 @@ returns : tie.Need-returns
 returns c = refused-first (now (c .before .before .before .args .t)) _ (c .before .layout-refusal .ensures) (c .if1 .taken)
 
 first-broken-requires : tie.Need-first-broken-requires
-first-broken-requires c κs = (past-laid (now (c .before .before .before .args .t)) _ (c .before .layout-refusal .ensures) (c .if1 .left), past-fits (now (c .before .before .before .args .t)) _ (c .before .layout-refusal .ensures) (c .if1 .left))
+first-broken-requires c κs =
+    let t = now (c .before .before .before .args .t) in
+    let layout = c .before .layout-refusal .ensures in
+    (past-laid t _ layout (c .if1 .left), past-fits t _ layout (c .if1 .left))
 
-enum-told : tie.Need-enum-told
-enum-told c = search needs
-
-enum-told-2 : tie.Need-enum-told-2
-enum-told-2 c = search needs
+answer-of-requires : tie.Need-answer-of-requires
+answer-of-requires c κs = search needs
 
 returns-2 : tie.Need-returns-2
 returns-2 c =
-    let at-layout-refusal = c .before .before .before .before in
-    let entry = at-layout-refusal .before .before in
-    all-accepted (now (entry .args .t)) _ (at-layout-refusal .layout-refusal .ensures) (c .before .before .before .if1 .left) _ (c .enum-told .given .1) (c .before .before .first-broken .ensures)
-
-returns-3 : tie.Need-returns-3
-returns-3 c =
-    let at-layout-refusal = c .before .before .before .before in
-    let entry = at-layout-refusal .before .before in
-    broken-refused (now (entry .args .t)) _ (at-layout-refusal .layout-refusal .ensures) (c .before .before .before .if1 .left) _ _ (c .enum-told2 .given .1) (c .before .before .first-broken .ensures)
+    let at-first-broken = c .before in
+    let at-layout-refusal = at-first-broken .before .before in
+    let t = now (at-layout-refusal .before .before .args .t) in
+    let layout = at-layout-refusal .layout-refusal .ensures in
+    let visited = at-first-broken .first-broken in
+    c .answer-of .ensures ∙ past-number t _ layout (at-first-broken .before .if1 .left) (visited .result) (visited .ensures)
 
 pub check-spec : {M : Type 1} → statement M
-check-spec =
-    tie.close
-    (tie.spec
-    layout-refusal-requires
-    returns
-    first-broken-requires
-    enum-told
-    enum-told-2
-    returns-2
-    returns-3)
+check-spec = tie.close (tie.spec layout-refusal-requires returns first-broken-requires answer-of-requires returns-2)

@@ -9,10 +9,10 @@ use Rattle.rdfs.specs.Numbers.{product}
 use Rattle.rdfs.specs.Facts.{graph}
 use Rattle.rdfs.specs.Words.{filled, facts}
 use Rattle.table.proofs.Filled.{counted-filled, counted-ascending}
-use Rattle.consistency.specs.Runs.{runCount}
-use Rattle.consistency.specs.Graphs.{graphOf}
+use Rattle.runs.specs.Runs.{runCount}
+use Rattle.runs.specs.Graphs.{graphOf}
 use Rattle.consistency.specs.Order.{rulesInOrder, Answers}
-use Rattle.consistency.proofs.Entered.{zeros-at}
+use Rattle.runs.proofs.Entered.{zeros-at}
 use Rattle.consistency.proofs.Same.{answers-same}
 use Rattle.consistency.proofs.Linked.{counted-words, filled-within, facts-within}
 use Rattle.consistency.proofs.first_broken.Statement.{statement}

@@ -5,9 +5,9 @@ use native.Mathlib.Omega.{arith}
 use borrow.Author.Needs.{needs}
 use denote.Ref.{now}
 use Rattle.rdfs.specs.Rules.{Meets}
-use Rattle.consistency.specs.Graphs.{graphOf}
+use Rattle.runs.specs.Graphs.{graphOf}
 use Rattle.consistency.specs.Order.{rulesInOrder, ruleAt}
-use Rattle.consistency.proofs.Decided.{decided-met, decided-broken}
+use Rattle.runs.proofs.Decided.{decided-met, decided-broken}
 use Rattle.consistency.proofs.Visiting.{MetBefore, visit-none, visit-more, visit-stops, visit-ends, visit-earlier}
 use Rattle.consistency.proofs.visit.visit.Statement.{statement}
 use Rattle.consistency.proofs.visit.visit.Tie as tie

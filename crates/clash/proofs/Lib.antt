@@ -1,0 +1,3 @@
+-- LookedFacts: for first_b. LookedRun: for first_with.
+mod LookedFacts
+mod LookedRun

@@ -1,0 +1,4 @@
+pub mod Alone
+pub mod Joined
+pub mod FactWords
+pub mod Partners

@@ -1,0 +1,36 @@
+-- `mark_with_class`: a, then what has a as domain, then what has a as range. Assumes nothing.
+use mathlib.Core.Path.{_∙_}
+use mathlib.Core.Bool.{true}
+use native.Mathlib.Omega.{arith}
+use denote.Ref.{now}
+use lib.ListN.{length-set}
+use Rattle.marks.proofs.Added.{adds-set, adds-twice}
+use borrow.Author.Needs.{needs}
+use Rattle.marks.proofs.mark_with_class.Statement.{statement}
+use Rattle.marks.proofs.mark_with_class.Tie as tie
+
+slice-write-ids : tie.Need-slice-write-ids
+slice-write-ids c = search needs
+
+mark-linked-requires : tie.Need-mark-linked-requires
+mark-linked-requires c κs = search needs
+
+mark-linked-requires-2 : tie.Need-mark-linked-requires-2
+mark-linked-requires-2 c κs = search needs
+
+same-length : tie.Need-same-length
+same-length c =
+    let mark-linked = c .before .before .before .before .before .before .mark-linked in
+    let start = c .before .before .before .before .before .before .before .before .before .before in
+    c .before .before .mark-linked2 .kept .1 .1 .1 .1 .0 ∙ (mark-linked .kept .1 .1 .1 .1 .0 ∙ length-set (now (start .args .ids)) (start .args .a) true)
+
+returns : tie.Need-returns
+returns c =
+    let mark-linked = c .before .before .before .before .before .before .mark-linked in
+    let start = c .before .before .before .before .before .before .before .before .before .before in
+    adds-twice (adds-set (now (start .args .ids)) (start .args .a) (omega (arith, start .pre .1, start .pre .2))) (adds-twice (mark-linked .ensures) (c .before .before .mark-linked2 .ensures))
+
+pub mark-with-class-spec : {M : Type 1} → statement M
+mark-with-class-spec =
+    tie.close
+    (tie.spec slice-write-ids mark-linked-requires mark-linked-requires-2 same-length returns)

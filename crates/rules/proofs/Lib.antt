@@ -1,0 +1,2 @@
+-- Meeting: for all_meet.
+mod Meeting

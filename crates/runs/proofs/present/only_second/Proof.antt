@@ -1,0 +1,45 @@
+-- `present::only_second` meets its contract: the run's first word has it. Assumes nothing.
+use borrow.Author.Needs.{needs}
+use Rattle.runs.proofs.RunFacts.{only-here, only-none}
+use Rattle.runs.proofs.present.only_second.Statement.{statement}
+use Rattle.runs.proofs.present.only_second.Tie as tie
+
+run-at-requires : tie.Need-run-at-requires
+run-at-requires c κs = search needs
+
+find-run-requires : tie.Need-find-run-requires
+find-run-requires c κs = search needs
+
+mul-second-of : tie.Need-mul-second-of
+mul-second-of c = search needs
+
+shared-slice-read-second-of : tie.Need-shared-slice-read-second-of
+shared-slice-read-second-of c = search needs
+
+second-of-requires : tie.Need-second-of-requires
+second-of-requires c κs = search needs
+
+returns : tie.Need-returns
+returns c =
+    let at-run-at = c .before .before .before .before in
+    let entry = at-run-at .before .before .before in
+    let start = rw (at-run-at .run-at .ensures) at (c .before .before .before .find-run .ensures) in
+    rw (c .second-of .ensures) (only-here (entry .pre .0 .words) _ _ (entry .pre .2) (entry .pre .3) _ start (entry .pre .4) (c .before .before .if1 .taken))
+
+returns-2 : tie.Need-returns-2
+returns-2 c =
+    let entry = c .before .before .before .before .before in
+    let start = rw (c .before .before .run-at .ensures) at (c .before .find-run .ensures) in
+    only-none (entry .pre .0 .words) _ _ (entry .pre .2) (entry .pre .3) _ start (c .if1 .left)
+
+pub only-second-spec : {M : Type 1} → statement M
+only-second-spec =
+    tie.close
+    (tie.spec
+    run-at-requires
+    find-run-requires
+    mul-second-of
+    shared-slice-read-second-of
+    second-of-requires
+    returns
+    returns-2)

@@ -1,0 +1,5 @@
+pub mod Runs
+pub mod Graphs
+pub mod Marks
+pub mod Asked
+pub mod Earlier

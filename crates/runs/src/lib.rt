@@ -1,0 +1,38 @@
+// The words of a table with an index of their runs: searches in runs, what single rules ask of the ids of a
+// fact, and the rules that compare whole runs. A run is the words of one kind and one first id.
+//
+// All functions serve the check of a table, and write no word of it. Each requires words of facts that
+// ascend, most of them with the index of their runs; the tests of rules 22, 23, 25, H3 and H4 also require
+// what an earlier rule shows, one domain or one range for each property. The crate assumes nothing.
+//
+// The index of runs takes 5,632 bytes of stack, two for each of 11 times 256 runs, and the marks of a run
+// 512. With ids up to 4,095 the index would take 90,112 and the marks 8,192.
+mod index;
+mod marks;
+mod merge;
+mod present;
+mod schema;
+mod typing;
+mod values;
+
+pub use index::RUNS;
+pub use index::fill_index;
+pub use marks::all_carried;
+pub use marks::all_subjects;
+pub use merge::place_of;
+pub use present::has_both;
+pub use present::has_least;
+pub use present::is_only;
+pub use present::lacks_in_run;
+pub use present::lacks_least;
+pub use schema::has_domain_and_range;
+pub use schema::has_like_ranges;
+pub use schema::has_linked_domains;
+pub use schema::has_linked_ranges;
+pub use typing::has_range_roles;
+pub use typing::has_value_roles;
+pub use typing::is_literal_only;
+pub use typing::is_under_resource;
+pub use values::all_inherited;
+pub use values::is_object_literal;
+pub use values::is_object_member;
