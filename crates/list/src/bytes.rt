@@ -26,11 +26,13 @@ fn count_tickets(n: usize) -> usize
     whole + 1
 }
 
-// Where the ticket from place i on ends, in n bytes.
+// Where the ticket from place i on ends, in n bytes: after its record, or with the bytes.
 pub fn find_end(i: usize, n: usize) -> usize
-    requires { ⌜ i < n ⌝ }
     ensures { λ r. ⌜ r ≡ min (i + recordLength) n ⌝ }
 {
+    if n < i {
+        return n;
+    }
     if n - i < RECORD {
         return n;
     }
