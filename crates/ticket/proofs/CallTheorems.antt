@@ -65,7 +65,8 @@ module _ (w b v : List ℕ) (r : Applied) (t : Table product w) (a : ApplyPromis
       (a .number ∙ x .0, subst (λ y. Largest (graph (facts product w)) (defs.named (defs.decoded b)) (keeps (defs.named (defs.decoded b))) (graph (facts product y))) (sym (a .words)) (x .1))
 
   -- A repeat of an accepted ticket is accepted, and adds and removes nothing.
-  pub call-repeat : r .answer ≡ 0 → (u : List ℕ) (q : Applied) → ApplyPromise v b q u → (q .answer ≡ 0) × (q .added ≡ 0) × (q .removed ≡ 0) × (u ≡ v)
+  pub call-repeat : r .answer ≡ 0 → (u : List ℕ) (q : Applied) → ApplyPromise v b q u
+      → (q .answer ≡ 0) × (q .added ≡ 0) × (q .removed ≡ 0) × (u ≡ v)
   call-repeat e u q c =
       let z : step product w b .number ≡ 0 = zero-number e in
       let f : Formed product b = passed product w b (sym (step-number product w b) ∙ z) .formed in

@@ -5,8 +5,8 @@ use mathlib.Core.List.{List}
 use denote.Ref.{now}
 use Rattle.list.specs.Listing.{listing, ListAnswered}
 use borrow.Author.Needs.{needs}
-use Rattle.list_examples.proofs.records.apply_case.Statement.{statement}
-use Rattle.list_examples.proofs.records.apply_case.Tie as tie
+use Rattle.list_examples.proofs.structs.apply_case.Statement.{statement}
+use Rattle.list_examples.proofs.structs.apply_case.Tie as tie
 
 case-tickets-requires : tie.Need-case-tickets-requires
 case-tickets-requires c κs = search needs

@@ -2,9 +2,9 @@
 use Prim.Native.Nat.{ℕ, zero, suc}
 use mathlib.Core.Path.{_≡_, refl}
 use borrow.Author.Needs.{needs}
-use Rattle.list.specs.Loops.{turnsOf}
-use Rattle.list.proofs.answers.count_turns.Statement.{statement}
-use Rattle.list.proofs.answers.count_turns.Tie as tie
+use Rattle.records.specs.Turns.{turnsOf}
+use Rattle.records.proofs.count_turns.Statement.{statement}
+use Rattle.records.proofs.count_turns.Tie as tie
 
 none-run : (answer n : ℕ) → (answer ≡ 0 → ⊥) → 0 ≡ turnsOf answer n
 none-run zero n h = absurd (h refl)

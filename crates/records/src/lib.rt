@@ -1,4 +1,8 @@
-// A list of tickets as structs, borrowed. The walk decides nothing: it hands each ticket to a covered function.
+// A list of tickets as structs, borrowed, run in turn on one table.
+//
+// The public call is `apply_records`. It has no `requires`: it says, for all inputs, its answer, both counts,
+// and every word and byte afterwards; they are those of `list::apply_list` with the tickets' bytes. The walk
+// decides nothing: it hands each ticket to a covered function. The crate assumes nothing.
 ghost use mathlib.Core.Path.{_≡_};
 ghost use Prim.Native.Nat.{_≤_, _<_};
 ghost use mathlib.Core.List.{map};
@@ -6,16 +10,26 @@ ghost use lib.ListN.{length, take, getD};
 ghost use Rattle.rdfs.specs.Numbers.{product};
 ghost use Rattle.rdfs.specs.Register.{step, run, Table};
 ghost use Rattle.ticket.specs.Form.{bytesOf};
 ghost use Rattle.list.specs.Listing.{listing, ListAnswered, recordBytes};
-ghost use Rattle.list.specs.Loops.{blank, OneRun, AllRun};
-use crate::Listed;
-use crate::answers::count_turns;
-use crate::answers::list_refusal;
-use crate::answers::put_number;
-use crate::answers::sum_up;
+ghost use Rattle.list.specs.Loops.{OneRun, AllRun};
+ghost use Rattle.records.specs.Turns.{blank, turnsOf};
+use list::Listed;
+use list::list_refusal;
+use list::put_number;
+use list::sum_up;
 use table::Word;
 use ticket::Ticket;
 use ticket::apply_ticket;
+
+// How many tickets of a list are run: none if it is refused.
+fn count_turns(answer: u8, n: usize) -> usize
+    ensures { λ r. ⌜ r ≡ turnsOf answer n ⌝ }
+{
+    if answer == 0 {
+        return n;
+    }
+    0
+}
 
 // Runs one ticket of a list, the k-th, on a table known to be consistent. The answer is how many are accepted, ok of those before it.
 fn run_ticket(table: &mut [Word], answers: &mut [u8], k: usize, ok: usize, t: Ticket) -> usize

@@ -36,14 +36,14 @@ use denote.Triple.Spec.{Meets, tripleOf}
 use denote.Triple.Table.{entered}
 use denote.Triple.Walked.{says, needs, Stays, stay-none-slice, stay-none, walkOf, Walks, ends-at, walked, goes-none-slice, goes-none, walk-meets}
 use denote.Exit.{yes}
-use Rattle.list.specs.Loops.{blank}
+use Rattle.records.specs.Turns.{blank}
 use Rattle.ticket.specs.declared.form.Ticket.{Ticket}
 use Rattle.ticket.proofs.form.Ticket as T
 use Rattle.ticket.proofs.form.Ticket.Laws as T′
-use Rattle.list.proofs.records.ticket_at.Key.{name as #ticket-at}
-use Rattle.list.proofs.records.ticket_at as at
-use Rattle.list.proofs.records.ticket_at.Statement as stated
-use Rattle.list.proofs.records.ticket_at.Code as code
+use Rattle.records.proofs.ticket_at.Key.{name as #ticket-at}
+use Rattle.records.proofs.ticket_at as at
+use Rattle.records.proofs.ticket_at.Statement as stated
+use Rattle.records.proofs.ticket_at.Code as code
 
 abbrev stayed : Stays (at.ended .signature .params) (at.ended .kept)
 stayed = (stay-none-slice (0 ∷ []) tt (plain (λ _. T.the-row)) yes, (stay-none (λ _. usize) yes, tt))

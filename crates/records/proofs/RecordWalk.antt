@@ -10,8 +10,9 @@ use Rattle.rdfs.specs.Numbers.{product}
 use Rattle.rdfs.specs.Register.{step, run, Table}
 use Rattle.ticket.specs.Form.{bytesOf}
 use Rattle.ticket.specs.declared.form.Ticket.{Ticket}
-use Rattle.list.specs.Loops.{blank, OneRun, AllRun}
+use Rattle.list.specs.Loops.{OneRun, AllRun}
+use Rattle.records.specs.Turns.{blank}
 use Rattle.list.proofs.Walked.{Walked, walked-start, walked-place, walked-accepted, walked-out, walked-words, walked-table, walked-more, walked-done}
 
 -- Of the first n tickets, i are run.
 abbrev pub RecordWalk : (start room : List ℕ) (tickets : List Ticket) (n i ok : ℕ) (w out : List ℕ) → Type 0

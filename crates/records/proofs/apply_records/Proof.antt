@@ -42,35 +42,36 @@ use Rattle.rdfs.specs.Numbers.{product}
 use Rattle.rdfs.specs.Register.{run, Table}
 use Rattle.ticket.specs.Form.{bytesOf}
 use Rattle.ticket.specs.declared.form.Ticket.{Ticket}
 use Rattle.list.specs.Listing.{refusalOf, listing, ListAnswered, recordBytes}
-use Rattle.list.specs.Loops.{AllRun, listedOf, turnsOf}
+use Rattle.list.specs.Loops.{AllRun, listedOf}
+use Rattle.records.specs.Turns.{turnsOf}
 use Rattle.list.specs.declared.Listed.{Listed}
-use Rattle.list.proofs.Relent.{Kept, lent-again, given-back}
-use Rattle.list.proofs.Parts.{records-asked, records-done}
+use Rattle.records.proofs.Relent.{Kept, lent-again, given-back}
+use Rattle.records.proofs.Parts.{records-asked, records-done}
 use Rattle.ticket.proofs.form.Ticket as T
 use Rattle.ticket.proofs.form.Ticket.Laws as T′
-use Rattle.list.proofs.answers.list_refusal as admit
-use Rattle.list.proofs.answers.list_refusal.Symbol as admit-def
-use Rattle.list.proofs.answers.list_refusal.Symbol.{name as #list-refusal}
-use Rattle.list.proofs.answers.list_refusal.Met as admit-thm
-use Rattle.list.proofs.answers.count_turns as turns
-use Rattle.list.proofs.answers.count_turns.Symbol as turns-def
-use Rattle.list.proofs.answers.count_turns.Symbol.{name as #count-turns}
-use Rattle.list.proofs.answers.count_turns.Met as turns-thm
-use Rattle.list.proofs.records.run_records as runs-all
-use Rattle.list.proofs.records.run_records.Symbol as runs-all-def
-use Rattle.list.proofs.records.run_records.Symbol.{name as #run-records}
-use Rattle.list.proofs.records.run_records.Met as runs-all-thm
-use Rattle.list.proofs.answers.sum_up as totals
-use Rattle.list.proofs.answers.sum_up.Symbol as totals-def
-use Rattle.list.proofs.answers.sum_up.Symbol.{name as #sum-up}
-use Rattle.list.proofs.answers.sum_up.Met as totals-thm
+use Rattle.list.proofs.list_refusal as admit
+use Rattle.list.proofs.list_refusal.Symbol as admit-def
+use Rattle.list.proofs.list_refusal.Symbol.{name as #list-refusal}
+use Rattle.list.proofs.list_refusal.Met as admit-thm
+use Rattle.records.proofs.count_turns as turns
+use Rattle.records.proofs.count_turns.Symbol as turns-def
+use Rattle.records.proofs.count_turns.Symbol.{name as #count-turns}
+use Rattle.records.proofs.count_turns.Met as turns-thm
+use Rattle.records.proofs.run_records as runs-all
+use Rattle.records.proofs.run_records.Symbol as runs-all-def
+use Rattle.records.proofs.run_records.Symbol.{name as #run-records}
+use Rattle.records.proofs.run_records.Met as runs-all-thm
+use Rattle.list.proofs.sum_up as totals
+use Rattle.list.proofs.sum_up.Symbol as totals-def
+use Rattle.list.proofs.sum_up.Symbol.{name as #sum-up}
+use Rattle.list.proofs.sum_up.Met as totals-thm
 use Rattle.list.proofs.Listed as S
 use Rattle.list.proofs.Listed.Laws as S′
-use Rattle.list.proofs.records.apply_records.Key.{name as #apply-records}
-use Rattle.list.proofs.records.apply_records as list
-use Rattle.list.proofs.records.apply_records.Statement as stated
-use Rattle.list.proofs.records.apply_records.Code as code
+use Rattle.records.proofs.apply_records.Key.{name as #apply-records}
+use Rattle.records.proofs.apply_records as list
+use Rattle.records.proofs.apply_records.Statement as stated
+use Rattle.records.proofs.apply_records.Code as code
 
 abbrev R : RattleType
 R = T.the-row
@@ -269,8 +270,8 @@ apply-records-spec 𝓤 H 𝓜 𝓖 𝓡 =
     entered 𝓤 H (tripleOf 𝓤 H (𝓖 .A) list.signature (list.spec 𝓤 H (𝓖 .A) (𝓜 .mem) (𝓡 .run)))
     (tables 𝓤 H 𝓜 𝓡 code.env .C) (tables 𝓤 H 𝓜 𝓡 code.env .Λ) #apply-records code.function (code.unfolded 𝓤 H 𝓜 𝓡)
     (list-meets 𝓤 H (𝓖 .A) (givenOf 𝓤 H 𝓜 𝓖) (𝓜 .mem) (𝓡 .run) (tablesOf 𝓤 H 𝓜 (tables 𝓤 H 𝓜 𝓡 code.env)) (
-      cited 𝓤 H (AdmitC 𝓤 H (𝓖 .A) (𝓜 .mem) (𝓡 .run)) 𝓜 𝓡 code.env #list-refusal admit-def.routine code.calls-list·answers·list-refusal (admit-thm.met 𝓤 H 𝓜 𝓖 𝓡),
-      cited 𝓤 H (TurnsC 𝓤 H (𝓖 .A) (𝓜 .mem) (𝓡 .run)) 𝓜 𝓡 code.env #count-turns turns-def.routine code.calls-list·answers·count-turns (turns-thm.met 𝓤 H 𝓜 𝓖 𝓡),
-      cited 𝓤 H (RunC 𝓤 H (𝓖 .A) (𝓜 .mem) (𝓡 .run)) 𝓜 𝓡 code.env #run-records runs-all-def.routine code.calls-list·records·run-records (runs-all-thm.met 𝓤 H 𝓜 𝓖 𝓡),
-      cited 𝓤 H (TotalsC 𝓤 H (𝓖 .A) (𝓜 .mem) (𝓡 .run)) 𝓜 𝓡 code.env #sum-up totals-def.routine code.calls-list·answers·sum-up (totals-thm.met 𝓤 H 𝓜 𝓖 𝓡),
+      cited 𝓤 H (AdmitC 𝓤 H (𝓖 .A) (𝓜 .mem) (𝓡 .run)) 𝓜 𝓡 code.env #list-refusal admit-def.routine code.calls-list·list-refusal (admit-thm.met 𝓤 H 𝓜 𝓖 𝓡),
+      cited 𝓤 H (TurnsC 𝓤 H (𝓖 .A) (𝓜 .mem) (𝓡 .run)) 𝓜 𝓡 code.env #count-turns turns-def.routine code.calls-records·count-turns (turns-thm.met 𝓤 H 𝓜 𝓖 𝓡),
+      cited 𝓤 H (RunC 𝓤 H (𝓖 .A) (𝓜 .mem) (𝓡 .run)) 𝓜 𝓡 code.env #run-records runs-all-def.routine code.calls-records·run-records (runs-all-thm.met 𝓤 H 𝓜 𝓖 𝓡),
+      cited 𝓤 H (TotalsC 𝓤 H (𝓖 .A) (𝓜 .mem) (𝓡 .run)) 𝓜 𝓡 code.env #sum-up totals-def.routine code.calls-list·sum-up (totals-thm.met 𝓤 H 𝓜 𝓖 𝓡),
     ))

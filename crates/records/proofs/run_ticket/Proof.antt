@@ -1,8 +1,8 @@
 -- `run_ticket`: one ticket, and its number put to its byte. Assumes nothing.
 use Rattle.list.proofs.ByteWalk.{one-run}
 use borrow.Author.Needs.{needs}
-use Rattle.list.proofs.records.run_ticket.Statement.{statement}
-use Rattle.list.proofs.records.run_ticket.Tie as tie
+use Rattle.records.proofs.run_ticket.Statement.{statement}
+use Rattle.records.proofs.run_ticket.Tie as tie
 
 apply-ticket-requires : tie.Need-apply-ticket-requires
 apply-ticket-requires c κs = c .before .before .before .pre .0

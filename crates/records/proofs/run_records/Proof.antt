@@ -54,25 +54,26 @@ use denote.Exit.{yes}
 use Rattle.rdfs.specs.Numbers.{product}
 use Rattle.rdfs.specs.Register.{step, run, Table}
 use Rattle.ticket.specs.Form.{bytesOf}
-use Rattle.list.specs.Loops.{blank, OneRun, AllRun}
+use Rattle.list.specs.Loops.{OneRun, AllRun}
+use Rattle.records.specs.Turns.{blank}
 use Rattle.ticket.specs.declared.form.Ticket.{Ticket}
-use Rattle.list.proofs.Relent.{Kept, lent-again, given-back}
-use Rattle.list.proofs.RecordWalk.{RecordWalk, record-start, record-place, record-accepted, record-out, record-words, record-table, record-more, record-done}
+use Rattle.records.proofs.Relent.{Kept, lent-again, given-back}
+use Rattle.records.proofs.RecordWalk.{RecordWalk, record-start, record-place, record-accepted, record-out, record-words, record-table, record-more, record-done}
 use Rattle.ticket.proofs.form.Ticket as T
 use Rattle.ticket.proofs.form.Ticket.Laws as T′
-use Rattle.list.proofs.records.ticket_at as at
-use Rattle.list.proofs.records.ticket_at.Symbol as at-def
-use Rattle.list.proofs.records.ticket_at.Symbol.{name as #ticket-at}
-use Rattle.list.proofs.records.ticket_at.Met as at-thm
-use Rattle.list.proofs.records.run_ticket as put
-use Rattle.list.proofs.records.run_ticket.Symbol as put-def
-use Rattle.list.proofs.records.run_ticket.Symbol.{name as #run-ticket}
-use Rattle.list.proofs.records.run_ticket.Met as put-thm
-use Rattle.list.proofs.records.run_records.Key.{name as #run-records}
-use Rattle.list.proofs.records.run_records as list
-use Rattle.list.proofs.records.run_records.Statement as stated
-use Rattle.list.proofs.records.run_records.Code as code
-use Rattle.list.proofs.records.run_records.Code.Mir as mirs
+use Rattle.records.proofs.ticket_at as at
+use Rattle.records.proofs.ticket_at.Symbol as at-def
+use Rattle.records.proofs.ticket_at.Symbol.{name as #ticket-at}
+use Rattle.records.proofs.ticket_at.Met as at-thm
+use Rattle.records.proofs.run_ticket as put
+use Rattle.records.proofs.run_ticket.Symbol as put-def
+use Rattle.records.proofs.run_ticket.Symbol.{name as #run-ticket}
+use Rattle.records.proofs.run_ticket.Met as put-thm
+use Rattle.records.proofs.run_records.Key.{name as #run-records}
+use Rattle.records.proofs.run_records as list
+use Rattle.records.proofs.run_records.Statement as stated
+use Rattle.records.proofs.run_records.Code as code
+use Rattle.records.proofs.run_records.Code.Mir as mirs
 
 abbrev R : RattleType
 R = T.the-row
@@ -389,5 +390,5 @@ run-records-spec 𝓤 H 𝓜 𝓖 𝓡 =
     entered 𝓤 H (tripleOf 𝓤 H (𝓖 .A) list.signature (list.spec 𝓤 H (𝓖 .A) (𝓜 .mem) (𝓡 .run)))
     (tables 𝓤 H 𝓜 𝓡 code.env .C) (tables 𝓤 H 𝓜 𝓡 code.env .Λ) #run-records code.function (code.unfolded 𝓤 H 𝓜 𝓡)
     (list-meets 𝓤 H (𝓖 .A) (givenOf 𝓤 H 𝓜 𝓖) (𝓜 .mem) (𝓡 .run) (tablesOf 𝓤 H 𝓜 (tables 𝓤 H 𝓜 𝓡 code.env))
-    (cited 𝓤 H (AtC 𝓤 H (𝓖 .A) (𝓜 .mem) (𝓡 .run)) 𝓜 𝓡 code.env #ticket-at at-def.routine code.calls-list·records·ticket-at (at-thm.met 𝓤 H 𝓜 𝓖 𝓡))
-    (cited 𝓤 H (PutC 𝓤 H (𝓖 .A) (𝓜 .mem) (𝓡 .run)) 𝓜 𝓡 code.env #run-ticket put-def.routine code.calls-list·records·run-ticket (put-thm.met 𝓤 H 𝓜 𝓖 𝓡)))
+    (cited 𝓤 H (AtC 𝓤 H (𝓖 .A) (𝓜 .mem) (𝓡 .run)) 𝓜 𝓡 code.env #ticket-at at-def.routine code.calls-records·ticket-at (at-thm.met 𝓤 H 𝓜 𝓖 𝓡))
+    (cited 𝓤 H (PutC 𝓤 H (𝓖 .A) (𝓜 .mem) (𝓡 .run)) 𝓜 𝓡 code.env #run-ticket put-def.routine code.calls-records·run-ticket (put-thm.met 𝓤 H 𝓜 𝓖 𝓡)))

@@ -50,14 +50,14 @@ use Rattle.ticket.proofs.form.Ticket as T
 use Rattle.ticket.proofs.form.Ticket.Laws as T′
 use Rattle.list.proofs.Listed as S
 use Rattle.list.proofs.Listed.Laws as S′
-use Rattle.list.proofs.apply_records as list
-use Rattle.list.proofs.apply_records.Symbol as list-def
-use Rattle.list.proofs.apply_records.Symbol.{name as #apply-records}
-use Rattle.list.proofs.apply_records.Met as list-thm
-use Rattle.list_examples.proofs.records.apply_five.Key.{name as #apply-five}
-use Rattle.list_examples.proofs.records.apply_five as five
-use Rattle.list_examples.proofs.records.apply_five.Statement as stated
-use Rattle.list_examples.proofs.records.apply_five.Code as code
+use Rattle.records.proofs.apply_records as list
+use Rattle.records.proofs.apply_records.Symbol as list-def
+use Rattle.records.proofs.apply_records.Symbol.{name as #apply-records}
+use Rattle.records.proofs.apply_records.Met as list-thm
+use Rattle.list_examples.proofs.structs.apply_five.Key.{name as #apply-five}
+use Rattle.list_examples.proofs.structs.apply_five as five
+use Rattle.list_examples.proofs.structs.apply_five.Statement as stated
+use Rattle.list_examples.proofs.structs.apply_five.Code as code
 
 abbrev R : RattleType
 R = T.the-row
@@ -199,4 +199,4 @@ apply-five-spec 𝓤 H 𝓜 𝓖 𝓡 =
     entered 𝓤 H (tripleOf 𝓤 H (𝓖 .A) five.signature (five.spec 𝓤 H (𝓖 .A) (𝓜 .mem) (𝓡 .run)))
     (tables 𝓤 H 𝓜 𝓡 code.env .C) (tables 𝓤 H 𝓜 𝓡 code.env .Λ) #apply-five code.function (code.unfolded 𝓤 H 𝓜 𝓡)
     (five-meets 𝓤 H (𝓖 .A) (givenOf 𝓤 H 𝓜 𝓖) (𝓜 .mem) (𝓡 .run) (tablesOf 𝓤 H 𝓜 (tables 𝓤 H 𝓜 𝓡 code.env))
-    (cited 𝓤 H (ListC 𝓤 H (𝓖 .A) (𝓜 .mem) (𝓡 .run)) 𝓜 𝓡 code.env #apply-records list-def.routine code.calls-list·apply-records (list-thm.met 𝓤 H 𝓜 𝓖 𝓡)))
+    (cited 𝓤 H (ListC 𝓤 H (𝓖 .A) (𝓜 .mem) (𝓡 .run)) 𝓜 𝓡 code.env #apply-records list-def.routine code.calls-records·apply-records (list-thm.met 𝓤 H 𝓜 𝓖 𝓡)))

@@ -3,7 +3,7 @@ ghost use mathlib.Core.Path.{_≡_};
 ghost use Rattle.list.specs.Listing.{listing, ListAnswered, recordBytes};
 ghost use Rattle.list_examples.specs.Case.{caseBytes};
 use list::Listed;
-use list::apply_records;
+use records::apply_records;
 use table::Word;
 use ticket::Ticket;
 
