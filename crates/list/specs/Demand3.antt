@@ -12,7 +12,7 @@ use Rattle.rdfs.specs.Register.{Done, cut, register, Table}
 use Rattle.rdfs.specs.Orders.{SameTickets, InOrder, AllInsertions, AllAccepted}
 use Rattle.ticket.specs.Answered.{ApplyPromise}
 use Rattle.ticket.specs.declared.Applied.{Applied}
-use Rattle.ticket.specs.declared.form.Ticket.{Ticket}
+use Rattle.form.specs.declared.Ticket.{Ticket}
 use Rattle.list.specs.declared.Listed.{Listed}
 use Rattle.list.specs.Listing.{acceptedOf, refusedOf, written, recordBytes, ListPromise, RecordsPromise}
 

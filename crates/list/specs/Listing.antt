@@ -8,8 +8,8 @@ use lib.ListN.{length, drop}
 use Rattle.rdfs.specs.Numbers.{product, recordLength}
 use Rattle.rdfs.specs.Lists.{count, concatMap}
 use Rattle.rdfs.specs.Register.{orElse, tableRefusal, Done, cut, register}
-use Rattle.ticket.specs.Form.{bytesOf}
-use Rattle.ticket.specs.declared.form.Ticket.{Ticket}
+use Rattle.form.specs.Form.{bytesOf}
+use Rattle.form.specs.declared.Ticket.{Ticket}
 use Rattle.list.specs.declared.Listed.{Listed}
 
 -- 1, 2, 3, 14, or 0, of a list of n tickets. 14: fewer answer bytes than tickets. An empty list needs none.

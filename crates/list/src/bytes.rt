@@ -10,8 +10,8 @@ use crate::Listed;
 use crate::answers::list_refusal;
 use crate::answers::put_number;
 use crate::answers::sum_up;
+use form::RECORD;
 use table::Word;
-use ticket::RECORD;
 use ticket::apply;
 use ticket::apply_checked;
 

@@ -9,8 +9,8 @@ use lib.Seq.{take-all}
 use Rattle.rdfs.specs.Numbers.{product, recordLength}
 use Rattle.rdfs.specs.Register.{run, cut, register, Table}
 use Rattle.rdfs.proofs.Cut.{cut-record}
-use Rattle.ticket.specs.Form.{bytesOf}
-use Rattle.ticket.specs.declared.form.Ticket.{Ticket}
+use Rattle.form.specs.Form.{bytesOf}
+use Rattle.form.specs.declared.Ticket.{Ticket}
 use Rattle.list.specs.declared.Listed.{Listed}
 use Rattle.list.specs.Listing.{refusalOf, listing, ListAnswered, recordBytes}
 use Rattle.list.specs.Loops.{AllRun, listedOf}

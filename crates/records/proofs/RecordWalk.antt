@@ -8,8 +8,8 @@ use lib.ListN.{length, take, drop, getD, length-take, length-map, drop-of-length
 use lib.Seq.{length-take-le, drop-cons, getD-take}
 use Rattle.rdfs.specs.Numbers.{product}
 use Rattle.rdfs.specs.Register.{step, run, Table}
-use Rattle.ticket.specs.Form.{bytesOf}
-use Rattle.ticket.specs.declared.form.Ticket.{Ticket}
+use Rattle.form.specs.Form.{bytesOf}
+use Rattle.form.specs.declared.Ticket.{Ticket}
 use Rattle.list.specs.Loops.{OneRun, AllRun}
 use Rattle.records.specs.Turns.{blank}
 use Rattle.list.proofs.Walked.{Walked, walked-start, walked-place, walked-accepted, walked-out, walked-words, walked-table, walked-more, walked-done}

@@ -1,6 +1,6 @@
 -- The turns of a loop over tickets as structs.
 use Prim.Native.Nat.{ℕ, zero, suc}
-use Rattle.ticket.specs.declared.form.Ticket.{Ticket}
+use Rattle.form.specs.declared.Ticket.{Ticket}
 
 -- How many tickets of a list are run: none if it is refused.
 abbrev pub turnsOf : ℕ → ℕ → ℕ

@@ -9,16 +9,16 @@ ghost use mathlib.Core.List.{map};
 ghost use lib.ListN.{length, take, getD};
 ghost use Rattle.rdfs.specs.Numbers.{product};
 ghost use Rattle.rdfs.specs.Register.{step, run, Table};
-ghost use Rattle.ticket.specs.Form.{bytesOf};
+ghost use Rattle.form.specs.Form.{bytesOf};
 ghost use Rattle.list.specs.Listing.{listing, ListAnswered, recordBytes};
 ghost use Rattle.list.specs.Loops.{OneRun, AllRun};
 ghost use Rattle.records.specs.Turns.{blank, turnsOf};
+use form::Ticket;
 use list::Listed;
 use list::list_refusal;
 use list::put_number;
 use list::sum_up;
 use table::Word;
-use ticket::Ticket;
 use ticket::apply_ticket;
 
 // How many tickets of a list are run: none if it is refused.

@@ -40,16 +40,16 @@ use denote.Triple.Walked.{says, Stays, gave-slice, stay-none-slice, walkOf, Walk
 use denote.Exit.{yes}
 use Rattle.rdfs.specs.Numbers.{product}
 use Rattle.rdfs.specs.Register.{run, Table}
-use Rattle.ticket.specs.Form.{bytesOf}
-use Rattle.ticket.specs.declared.form.Ticket.{Ticket}
+use Rattle.form.specs.Form.{bytesOf}
+use Rattle.form.specs.declared.Ticket.{Ticket}
 use Rattle.list.specs.Listing.{refusalOf, listing, ListAnswered, recordBytes}
 use Rattle.list.specs.Loops.{AllRun, listedOf}
 use Rattle.records.specs.Turns.{turnsOf}
 use Rattle.list.specs.declared.Listed.{Listed}
 use Rattle.records.proofs.Relent.{Kept, lent-again, given-back}
 use Rattle.records.proofs.Parts.{records-asked, records-done}
-use Rattle.ticket.proofs.form.Ticket as T
-use Rattle.ticket.proofs.form.Ticket.Laws as T′
+use Rattle.form.proofs.Ticket as T
+use Rattle.form.proofs.Ticket.Laws as T′
 use Rattle.list.proofs.list_refusal as admit
 use Rattle.list.proofs.list_refusal.Symbol as admit-def
 use Rattle.list.proofs.list_refusal.Symbol.{name as #list-refusal}

@@ -53,14 +53,14 @@ use denote.Triple.Walked.{says, needs, Stays, stay-slice, stay-none-slice, stay-
 use denote.Exit.{yes}
 use Rattle.rdfs.specs.Numbers.{product}
 use Rattle.rdfs.specs.Register.{step, run, Table}
-use Rattle.ticket.specs.Form.{bytesOf}
+use Rattle.form.specs.Form.{bytesOf}
 use Rattle.list.specs.Loops.{OneRun, AllRun}
 use Rattle.records.specs.Turns.{blank}
-use Rattle.ticket.specs.declared.form.Ticket.{Ticket}
+use Rattle.form.specs.declared.Ticket.{Ticket}
 use Rattle.records.proofs.Relent.{Kept, lent-again, given-back}
 use Rattle.records.proofs.RecordWalk.{RecordWalk, record-start, record-place, record-accepted, record-out, record-words, record-table, record-more, record-done}
-use Rattle.ticket.proofs.form.Ticket as T
-use Rattle.ticket.proofs.form.Ticket.Laws as T′
+use Rattle.form.proofs.Ticket as T
+use Rattle.form.proofs.Ticket.Laws as T′
 use Rattle.records.proofs.ticket_at as at
 use Rattle.records.proofs.ticket_at.Symbol as at-def
 use Rattle.records.proofs.ticket_at.Symbol.{name as #ticket-at}

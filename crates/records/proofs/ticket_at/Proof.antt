@@ -37,9 +37,9 @@ use denote.Triple.Table.{entered}
 use denote.Triple.Walked.{says, needs, Stays, stay-none-slice, stay-none, walkOf, Walks, ends-at, walked, goes-none-slice, goes-none, walk-meets}
 use denote.Exit.{yes}
 use Rattle.records.specs.Turns.{blank}
-use Rattle.ticket.specs.declared.form.Ticket.{Ticket}
-use Rattle.ticket.proofs.form.Ticket as T
-use Rattle.ticket.proofs.form.Ticket.Laws as T′
+use Rattle.form.specs.declared.Ticket.{Ticket}
+use Rattle.form.proofs.Ticket as T
+use Rattle.form.proofs.Ticket.Laws as T′
 use Rattle.records.proofs.ticket_at.Key.{name as #ticket-at}
 use Rattle.records.proofs.ticket_at as at
 use Rattle.records.proofs.ticket_at.Statement as stated

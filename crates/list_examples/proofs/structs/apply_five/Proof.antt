@@ -42,12 +42,12 @@ use denote.Triple.Spec.{Meets, tripleOf}
 use denote.Triple.Table.{entered, cited}
 use denote.Triple.Walked.{says, Stays, gave-slice, stay-none, walkOf, Walks, ends-at, walked, goes-gave-slice, goes-none, walk-meets}
 use denote.Exit.{yes}
-use Rattle.ticket.specs.declared.form.Ticket.{Ticket}
+use Rattle.form.specs.declared.Ticket.{Ticket}
 use Rattle.list.specs.declared.Listed.{Listed}
 use Rattle.list.specs.Listing.{listing, ListAnswered, recordBytes}
 use Rattle.list_examples.proofs.Elements.{Elements, elements-in, elements-out}
-use Rattle.ticket.proofs.form.Ticket as T
-use Rattle.ticket.proofs.form.Ticket.Laws as T′
+use Rattle.form.proofs.Ticket as T
+use Rattle.form.proofs.Ticket.Laws as T′
 use Rattle.list.proofs.Listed as S
 use Rattle.list.proofs.Listed.Laws as S′
 use Rattle.records.proofs.apply_records as list
