@@ -1,6 +1,6 @@
 // A list of tickets as bytes: records of five, and one ticket of what is left over.
 ghost use mathlib.Core.Path.{_≡_};
-ghost use Prim.Native.Nat.{_+_, _≤_, _<_, min};
+ghost use Prim.Native.Nat.{_+_, _≤_, min};
 ghost use lib.ListN.{length};
 ghost use Rattle.rdfs.specs.Numbers.{product, recordLength};
 ghost use Rattle.rdfs.specs.Register.{cut, register, Table};

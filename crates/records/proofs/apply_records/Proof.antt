@@ -49,7 +49,6 @@ use Rattle.list.specs.declared.Listed.{Listed}
 use Rattle.records.proofs.Relent.{Kept, lent-again, given-back}
 use Rattle.records.proofs.Parts.{records-asked, records-done}
 use Rattle.form.proofs.Ticket as T
-use Rattle.form.proofs.Ticket.Laws as T′
 use Rattle.list.proofs.list_refusal as admit
 use Rattle.list.proofs.list_refusal.Symbol as admit-def
 use Rattle.list.proofs.list_refusal.Symbol.{name as #list-refusal}
