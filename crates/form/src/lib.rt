@@ -1,8 +1,8 @@
 // The form of a ticket, and the refusals before it is run: 5 to 8 by its fields, 9 by a table's facts.
 //
-// The functions serve the crates above; none is a call of a host. `form_refusal` and `wide` have no `requires`;
-// `decode` asks for the length of a record, `is_unknown_property` and `has_asked` for a table with the number of
-// its facts and a ticket past refusal 8. The crate assumes nothing.
+// The functions serve the crates above; none is a call of a host. `form_refusal` and `wide` have no
+// `requires`; `decode` asks for the length of a record, `is_unknown_property` and `has_asked` for a table with
+// the number of its facts and a ticket past refusal 8. The crate assumes nothing.
 ghost use mathlib.Core.Path.{_≡_};
 ghost use lib.Dec.{eqb};
 ghost use lib.ListN.{length};

@@ -23,7 +23,8 @@ pub record Calls : Type 1 where
   pub apply-list : (table bytes answers : List ℕ) → Listed → List ℕ → List ℕ → Type 0
   pub apply-records : (table : List ℕ) (tickets : List Ticket) (answers : List ℕ) → Listed → List ℕ → List ℕ → Type 0
 
--- What they promise; proofs/Tied of each call's crate says that this is its contract in the source. Nothing else is known of the calls.
+-- What they promise; proofs/Tied of each call's crate says that this is its contract in the source. Nothing else is known of
+-- the calls.
 pub record Contracts (C : Calls) : Type 0 where
   pub apply : (w ticket : List ℕ) (r : Applied) (v : List ℕ) → C .apply w ticket r v → ApplyPromise w ticket r v
   pub apply-each : (w bytes answers : List ℕ) (r : Listed) (v out : List ℕ)

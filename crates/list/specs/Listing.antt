@@ -68,8 +68,9 @@ pub record ListAnswered (r : Listed) (table answers : List ℕ) (s : Listing) : 
 abbrev pub recordBytes : List Ticket → List ℕ
 recordBytes tickets = concatMap bytesOf tickets
 
--- What `apply_list` and `apply_each` promise, for all words w of a table, bytes of a list and answer bytes: they answer r, and leave
--- the words v and the answer bytes out. Demand 3 takes this as a premise, and proofs/Tied says that it is the contract in the source.
+-- What `apply_list` and `apply_each` promise, for all words w of a table, bytes of a list and answer bytes: they answer r, and
+-- leave the words v and the answer bytes out. Demand 3 takes this as a premise, and proofs/Tied says that it is the contract in
+-- the source.
 abbrev pub ListPromise : (w bytes answers : List ℕ) → Listed → (v out : List ℕ) → Type 0
 ListPromise w bytes answers r v out = ListAnswered r v out (listing w bytes answers)
 

@@ -2,9 +2,9 @@
 //
 // The public calls are `apply_list`, and `apply_each`, a loop over the single call. They have no `requires`:
 // each says, for all inputs, its answer, both counts, and every word and byte afterwards. The other functions
-// serve the crates above: `find_end` says where a ticket's bytes end; `list_refusal`, `put_number` and `sum_up`
-// are what a list call does besides running its tickets. Of these `put_number` and `sum_up` have a `requires`,
-// on the counts that a list call keeps. The crate assumes nothing.
+// serve the crates above: `find_end` says where a ticket's bytes end; `list_refusal`, `put_number` and
+// `sum_up` are what a list call does besides running its tickets. Of these `put_number` and `sum_up` have a
+// `requires`, on the counts that a list call keeps. The crate assumes nothing.
 
 mod answers;
 mod bytes;
