@@ -8,6 +8,7 @@ mod report;
 use compare::count_of;
 use compare::is_then;
 use damage::print_changes;
+use ticket_form::RECORD;
 use image::read;
 use image::write;
 use parts::print_bodies;
@@ -19,7 +20,6 @@ use report::print_text;
 use table::MOST;
 use table::Word;
 use table::fresh;
-use ticket::RECORD;
 use ticket::apply;
 
 // The words of the table, and the bytes that its image is written into.

@@ -1,17 +1,13 @@
--- The tickets of a list cut off after some of them are its first; the tickets of records are their bytes. Assumes nothing.
+-- The tickets of a list cut off after some of them are its first. Assumes nothing.
 use Prim.Native.Nat.{ℕ, zero, suc, _+_, _-_, _*_, _<_, _≤_, min}
-use mathlib.Core.Path.{_≡_, refl, sym, ap, _∙_}
-use mathlib.Core.List.{List, [], _∷_, _++_, map}
+use mathlib.Core.Path.{_≡_, sym, ap, _∙_}
+use mathlib.Core.List.{List, [], _∷_, _++_}
 use native.Mathlib.Omega.{arith}
 use native.Mathlib.Decide.{decLe}
 use lib.ListN.{length, take, drop, getD, length-drop, drop-of-length-le}
 use lib.Seq.{take-nil, take-all, take-add, length-take-le, drop-cons, drop-drop}
-use Rattle.rdfs.specs.Numbers.{recordLength}
 use Rattle.rdfs.specs.Register.{cut}
 use Rattle.rdfs.proofs.Cut.{cut-more, cut-record, cut-short}
-use Rattle.ticket.specs.Form.{bytesOf}
-use Rattle.ticket.specs.declared.form.Ticket.{Ticket}
-use Rattle.list.specs.Listing.{recordBytes}
 
 module _ (n : ℕ) (some : 0 < n) where
   pub cut-take : (k : ℕ) (l : List ℕ) → cut n (take (k * n) l) ≡ take k (cut n l)
@@ -54,7 +50,3 @@ module _ (n : ℕ) (some : 0 < n) where
 -- At the end no ticket is left.
 pub cut-end : (n : ℕ) (l : List ℕ) {i : ℕ} → length l ≤ i → cut n (drop i l) ≡ []
 cut-end n l h = ap (cut n) (drop-of-length-le l h)
-
-pub cut-records : (tickets : List Ticket) → cut recordLength (recordBytes tickets) ≡ map bytesOf tickets
-cut-records [] = refl
-cut-records (t ∷ l) = cut-record recordLength (omega arith) (bytesOf t) (recordBytes l) refl ∙ ap (λ c. bytesOf t ∷ c) (cut-records l)

@@ -13,7 +13,7 @@ use Rattle.rdfs.proofs.Perms.{same-tickets-length}
 use Rattle.rdfs.proofs.AfterEach.{after-each}
 use Rattle.rdfs.proofs.Rearrangement.{rearrangement}
 use Rattle.rdfs.proofs.Theorems.{product-sound}
-use Rattle.list.specs.Listing.{listRefusal, listing, ListAnswered}
+use Rattle.list.specs.Listing.{listRefusal, ListPromise}
 use Rattle.list.specs.Demand3.{Calls, Contracts, Single, OneByOne, leftBy, AsRegister, cutOff, AfterTicket, Demand3}
 use Rattle.list.proofs.CutOff.{cut-take}
 use Rattle.list.proofs.Runs.{words-next, number-at}
@@ -44,7 +44,7 @@ module _ (C : Calls) (contracts : Contracts C) (w : List ℕ) (t : Table product
         each = λ r v out h. answered-ran w bytes answers runs r v out (contracts .apply-each w bytes answers r v out h);
         listed = λ r v out h. answered-ran w bytes answers runs r v out (contracts .apply-list w bytes answers r v out h);
         records = λ l e r v out h. answered-ran w bytes answers runs r v out
-            (subst (λ b. ListAnswered r v out (listing w b answers)) e (contracts .apply-records w l answers r v out h));
+            (subst (λ b. ListPromise w b answers r v out) e (contracts .apply-records w l answers r v out h));
       }
 
   module _ (bytes answers : List ℕ) (room : length (tickets bytes) ≤ length answers) where

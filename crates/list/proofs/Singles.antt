@@ -5,12 +5,12 @@ use mathlib.Core.List.{List, [], _∷_}
 use lib.ListN.{take}
 use Rattle.rdfs.specs.Numbers.{product}
 use Rattle.rdfs.specs.Register.{step, run}
-use Rattle.ticket.specs.Answered.{Answered}
+use Rattle.ticket.specs.Answered.{ApplyPromise}
 use Rattle.list.specs.Demand3.{Calls, Contracts, Single, OneByOne, RanSingly}
 
 module _ (C : Calls) (contracts : Contracts C) where
   -- The first call did as the register, and the others from the words that it left.
-  singly-more : (w t : List ℕ) (l : List (List ℕ)) (s : Single) (ss : List Single) → Answered (s .answer) (s .table) (step product w t)
+  singly-more : (w t : List ℕ) (l : List (List ℕ)) (s : Single) (ss : List Single) → ApplyPromise w t (s .answer) (s .table)
       → RanSingly (s .table) ss (run product (s .table) l) → RanSingly w (s ∷ ss) (run product w (t ∷ l))
   unfolding run
   singly-more w t l s ss a r =

@@ -11,7 +11,7 @@ use Rattle.rdfs.specs.Numbers.{product, recordLength}
 use Rattle.rdfs.specs.Register.{orElse, cut, register, Table}
 use Rattle.rdfs.proofs.Steps.{table-passes}
 use Rattle.list.specs.declared.Listed.{Listed}
-use Rattle.list.specs.Listing.{listRefusal, listingBy, listing, ListAnswered}
+use Rattle.list.specs.Listing.{listRefusal, listingBy, listing, ListAnswered, ListPromise}
 use Rattle.list.specs.Demand3.{Ran}
 
 module _ (w bytes answers : List ℕ) (t : Table product w) where
@@ -31,7 +31,8 @@ module _ (w bytes answers : List ℕ) (e : listRefusal w bytes answers ≡ 0) wh
   unfolding listing
   listing-runs = ap (λ n. listingBy n w answers (register product w bytes)) e
 
-  pub answered-ran : (r : Listed) (v out : List ℕ) → ListAnswered r v out (listing w bytes answers) → Ran answers r v out (register product w bytes)
+  pub answered-ran : (r : Listed) (v out : List ℕ) → ListPromise w bytes answers r v out
+      → Ran answers r v out (register product w bytes)
   answered-ran r v out h =
       let k : ListAnswered r v out (listingBy 0 w answers (register product w bytes)) = subst (ListAnswered r v out) listing-runs h in
       record { answer = k .answer; words = k .words; numbers = k .numbers; accepted = k .accepted; refused = k .refused }

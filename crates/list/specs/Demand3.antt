@@ -8,13 +8,13 @@ use Rattle.rdfs.specs.Numbers.{product, recordLength}
 use Rattle.rdfs.specs.Lists.{_∈_, _⊆_, concatMap}
 use Rattle.rdfs.specs.Words.{facts}
 use Rattle.rdfs.specs.Tickets.{decoded, inserts, deletes, named, asked}
-use Rattle.rdfs.specs.Register.{step, Done, cut, register, Table}
+use Rattle.rdfs.specs.Register.{Done, cut, register, Table}
 use Rattle.rdfs.specs.Orders.{SameTickets, InOrder, AllInsertions, AllAccepted}
-use Rattle.ticket.specs.Answered.{Answered}
+use Rattle.ticket.specs.Answered.{ApplyPromise}
 use Rattle.ticket.specs.declared.Applied.{Applied}
-use Rattle.ticket.specs.declared.form.Ticket.{Ticket}
+use Rattle.ticket_form.specs.declared.Ticket.{Ticket}
 use Rattle.list.specs.declared.Listed.{Listed}
-use Rattle.list.specs.Listing.{acceptedOf, refusedOf, written, listing, ListAnswered, recordBytes}
+use Rattle.list.specs.Listing.{acceptedOf, refusedOf, written, recordBytes, ListPromise, RecordsPromise}
 
 -- The calls: by the words and bytes that one is lent, what it may answer, and the words and answer bytes that it may leave.
 pub record Calls : Type 1 where
@@ -23,13 +23,16 @@ pub record Calls : Type 1 where
   pub apply-list : (table bytes answers : List ℕ) → Listed → List ℕ → List ℕ → Type 0
   pub apply-records : (table : List ℕ) (tickets : List Ticket) (answers : List ℕ) → Listed → List ℕ → List ℕ → Type 0
 
--- Their contracts, as in the source. Nothing else is known of the calls.
+-- What they promise; proofs/Tied of each call's crate says that this is its contract in the source. Nothing else is known of
+-- the calls.
 pub record Contracts (C : Calls) : Type 0 where
-  pub apply : (w t : List ℕ) (r : Applied) (v : List ℕ) → C .apply w t r v → Answered r v (step product w t)
-  pub apply-each : (w bytes answers : List ℕ) (r : Listed) (v out : List ℕ) → C .apply-each w bytes answers r v out → ListAnswered r v out (listing w bytes answers)
-  pub apply-list : (w bytes answers : List ℕ) (r : Listed) (v out : List ℕ) → C .apply-list w bytes answers r v out → ListAnswered r v out (listing w bytes answers)
+  pub apply : (w ticket : List ℕ) (r : Applied) (v : List ℕ) → C .apply w ticket r v → ApplyPromise w ticket r v
+  pub apply-each : (w bytes answers : List ℕ) (r : Listed) (v out : List ℕ)
+      → C .apply-each w bytes answers r v out → ListPromise w bytes answers r v out
+  pub apply-list : (w bytes answers : List ℕ) (r : Listed) (v out : List ℕ)
+      → C .apply-list w bytes answers r v out → ListPromise w bytes answers r v out
   pub apply-records : (w : List ℕ) (tickets : List Ticket) (answers : List ℕ) (r : Listed) (v out : List ℕ)
-      → C .apply-records w tickets answers r v out → ListAnswered r v out (listing w (recordBytes tickets) answers)
+      → C .apply-records w tickets answers r v out → RecordsPromise w tickets answers r v out
 
 -- What a single call answers, and the words that it leaves.
 pub record Single : Type 0 where

@@ -2,14 +2,14 @@
 use Prim.Native.Nat.{ℕ, zero, suc}
 use mathlib.Core.Path.{_≡_}
 use mathlib.Core.Bool.{not}
-use mathlib.Core.List.{List, [], _∷_, _++_}
+use mathlib.Core.List.{List, _++_}
 use lib.Dec.{eqb, ltb}
 use lib.ListN.{length, drop}
 use Rattle.rdfs.specs.Numbers.{product, recordLength}
 use Rattle.rdfs.specs.Lists.{count, concatMap}
 use Rattle.rdfs.specs.Register.{orElse, tableRefusal, Done, cut, register}
-use Rattle.ticket.specs.Form.{bytesOf}
-use Rattle.ticket.specs.declared.form.Ticket.{Ticket}
+use Rattle.ticket_form.specs.Form.{bytesOf}
+use Rattle.ticket_form.specs.declared.Ticket.{Ticket}
 use Rattle.list.specs.declared.Listed.{Listed}
 
 -- 1, 2, 3, 14, or 0, of a list of n tickets. 14: fewer answer bytes than tickets. An empty list needs none.
@@ -67,3 +67,13 @@ pub record ListAnswered (r : Listed) (table answers : List ℕ) (s : Listing) : 
 -- The bytes of tickets, one after another.
 abbrev pub recordBytes : List Ticket → List ℕ
 recordBytes tickets = concatMap bytesOf tickets
+
+-- What `apply_list` and `apply_each` promise, for all words w of a table, bytes of a list and answer bytes: they answer r, and
+-- leave the words v and the answer bytes out. Demand 3 takes this as a premise, and proofs/Tied says that it is the contract in
+-- the source.
+abbrev pub ListPromise : (w bytes answers : List ℕ) → Listed → (v out : List ℕ) → Type 0
+ListPromise w bytes answers r v out = ListAnswered r v out (listing w bytes answers)
+
+-- What `apply_records` of the crate above promises: the same of its tickets' bytes. Its tie stands there.
+abbrev pub RecordsPromise : (w : List ℕ) (tickets : List Ticket) (answers : List ℕ) → Listed → (v out : List ℕ) → Type 0
+RecordsPromise w tickets answers = ListPromise w (recordBytes tickets) answers

@@ -1,5 +1,5 @@
 -- What the functions under the list calls answer and leave: one ticket of a list, a loop over tickets, the counts.
-use Prim.Native.Nat.{ℕ, suc, zero, _+_, _-_, _/_, _%_}
+use Prim.Native.Nat.{ℕ, _+_, _-_, _/_, _%_}
 use mathlib.Core.Path.{_≡_}
 use mathlib.Core.Bool.{cond}
 use mathlib.Core.List.{List}
@@ -7,7 +7,6 @@ use lib.Dec.{eqb}
 use lib.ListN.{set}
 use Rattle.rdfs.specs.Numbers.{recordLength}
 use Rattle.rdfs.specs.Register.{Answer, Done}
-use Rattle.ticket.specs.declared.form.Ticket.{Ticket}
 use Rattle.list.specs.declared.Listed.{Listed}
 use Rattle.list.specs.Listing.{acceptedOf, written}
 
@@ -34,12 +33,3 @@ pub record AllRun (ok : ℕ) (table answers out : List ℕ) (d : Done) : Type 0 
 -- The answer of a list of n tickets by its refusal.
 abbrev pub listedOf : ℕ → ℕ → ℕ → Listed
 listedOf answer n ok = record { answer = answer; accepted = ok; refused = n - ok }
-
--- How many tickets of a list are run: none if it is refused.
-abbrev pub turnsOf : ℕ → ℕ → ℕ
-turnsOf zero n = n
-turnsOf (suc answer) n = 0
-
--- What stands for a place beyond a slice of tickets.
-abbrev pub blank : Ticket
-blank = record { operation = 0; kind = 0; a = 0; b = 0; c = 0 }

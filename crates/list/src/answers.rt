@@ -3,7 +3,7 @@ ghost use mathlib.Core.Path.{_≡_};
 ghost use Prim.Native.Nat.{_≤_, _<_};
 ghost use lib.ListN.{length, set};
 ghost use Rattle.list.specs.Listing.{refusalOf};
-ghost use Rattle.list.specs.Loops.{acceptedAfter, listedOf, turnsOf};
+ghost use Rattle.list.specs.Loops.{acceptedAfter, listedOf};
 use crate::Listed;
 use consistency::check;
 use table::Word;
@@ -36,16 +36,6 @@ pub fn put_number(answers: &mut [u8], k: usize, ok: usize, number: u8) -> usize
         return ok + 1;
     }
     ok
-}
-
-// How many tickets of a list are run: none if it is refused.
-pub fn count_turns(answer: u8, n: usize) -> usize
-    ensures { λ r. ⌜ r ≡ turnsOf answer n ⌝ }
-{
-    if answer == 0 {
-        return n;
-    }
-    0
 }
 
 // The answer of a list, ok of whose n tickets are accepted.

@@ -1,6 +1,6 @@
 // A list of tickets as bytes: records of five, and one ticket of what is left over.
 ghost use mathlib.Core.Path.{_≡_};
-ghost use Prim.Native.Nat.{_+_, _≤_, _<_, min};
+ghost use Prim.Native.Nat.{_+_, _≤_, min};
 ghost use lib.ListN.{length};
 ghost use Rattle.rdfs.specs.Numbers.{product, recordLength};
 ghost use Rattle.rdfs.specs.Register.{cut, register, Table};
@@ -10,8 +10,8 @@ use crate::Listed;
 use crate::answers::list_refusal;
 use crate::answers::put_number;
 use crate::answers::sum_up;
+use ticket_form::RECORD;
 use table::Word;
-use ticket::RECORD;
 use ticket::apply;
 use ticket::apply_checked;
 
@@ -26,11 +26,13 @@ fn count_tickets(n: usize) -> usize
     whole + 1
 }
 
-// Where the ticket from place i on ends, in n bytes.
+// Where the ticket from place i on ends, in n bytes: after its record, or with the bytes.
 pub fn find_end(i: usize, n: usize) -> usize
-    requires { ⌜ i < n ⌝ }
     ensures { λ r. ⌜ r ≡ min (i + recordLength) n ⌝ }
 {
+    if n < i {
+        return n;
+    }
     if n - i < RECORD {
         return n;
     }

@@ -2,9 +2,9 @@
 ghost use mathlib.Core.Path.{_≡_};
 ghost use Rattle.list.specs.Listing.{listing};
 ghost use Rattle.list_examples.specs.Case.{caseBytes};
-use crate::records::apply_case;
 use crate::report::print_listed;
 use crate::report::print_text;
+use crate::structs::apply_case;
 use list::apply_each;
 use list::apply_list;
 use table::Word;

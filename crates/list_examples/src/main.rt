@@ -1,12 +1,13 @@
-// Lists of tickets through the three calls of crate `list`: the case of document 01, answer bytes of several lengths, tables and tickets that are
-// refused, a plant's tree drawn in several orders, the empty list. It prints what each list answers, and compares what the lists leave.
+// Lists of tickets through the three calls of crates `list` and `records`: the case of document 01, answer
+// bytes of several lengths, tables and tickets that are refused, a plant's tree drawn in several orders, the
+// empty list. It prints what each list answers, and compares what the lists leave.
 mod calls;
 mod case;
 mod compare;
 mod edges;
 mod plant;
-mod records;
 mod report;
+mod structs;
 
 use case::print_of_case;
 use edges::print_empty;

@@ -10,12 +10,13 @@ use Rattle.rdfs.specs.Words.{filled}
 use Rattle.rdfs.specs.Register.{Answer, Table}
 use Rattle.rdfs.specs.Tickets.{ticketOf}
 use Rattle.rdfs.proofs.TicketTests.{known-operation}
-use Rattle.ticket.specs.Form.{sense, bytesOf, recordOf, formRefusal, Ready}
+use Rattle.ticket_form.specs.Form.{sense, bytesOf, recordOf, formRefusal}
+use Rattle.ticket.specs.Ready.{Ready}
 use Rattle.ticket.specs.Answered.{Answered, Valued, Stepped, refusedWith}
 use Rattle.ticket.specs.declared.Applied.{Applied}
-use Rattle.ticket.specs.declared.form.Ticket.{Ticket}
+use Rattle.ticket_form.specs.declared.Ticket.{Ticket}
 use Rattle.ticket.specs.declared.step.Step.{Step}
-use Rattle.ticket.proofs.Formed.{form-passes}
+use Rattle.ticket_form.proofs.Formed.{form-passes}
 
 -- A ticket by its fields, each made wide.
 module _ {o k a b c : ℕ} (t : Ticket) (eo : t .operation ≡ o) (ek : k ≡ t .kind) (ea : a ≡ t .a) (eb : b ≡ t .b) (ec : c ≡ t .c) where

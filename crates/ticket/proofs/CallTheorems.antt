@@ -1,5 +1,5 @@
 -- Demands 1 and 2 about the single call itself: r is what `apply` answers and v the words it leaves, and all that is known of them is its
--- contract, `Answered`. Assumes nothing.
+-- contract, `ApplyPromise`. Assumes nothing.
 use Prim.Native.Nat.{ℕ}
 use mathlib.Core.Path.{_≡_, sym, ap, subst, _∙_}
 use mathlib.Core.Bool.{Bool, true, false}
@@ -20,7 +20,7 @@ use Rattle.rdfs.proofs.Steps.{step-number, refused-keeps}
 use Rattle.rdfs.proofs.TicketTests.{known-operation}
 use Rattle.rdfs.proofs.AfterEach.{after}
 use Rattle.rdfs.proofs.Theorems.{product-sound, insertion-is-smallest, ten-is-exact, eleven-only-if-full, deletion-is-largest, repeat-changes-nothing}
-use Rattle.ticket.specs.Answered.{Answered}
+use Rattle.ticket.specs.Answered.{ApplyPromise}
 use Rattle.ticket.specs.Demand1.{conditions, First, none, here, later, Demand1}
 use Rattle.ticket.specs.declared.Applied.{Applied}
 
@@ -30,14 +30,14 @@ link true l n rest h = here tt
 link false l n rest h = later (λ f. f) h
 
 -- Demand 1: the answer is 0 or the first refusal whose condition holds, and a refusal moves nothing.
-pub demand-1 : (w b v : List ℕ) (r : Applied) → Answered r v (step product w b) → Demand1 w b v r
+pub demand-1 : (w b v : List ℕ) (r : Applied) → ApplyPromise w b r v → Demand1 w b v r
 demand-1 w b v r a = record {
   first = subst (First (conditions w b)) (sym (a .number ∙ step-number product w b)) (link _ _ 1 _ (link _ _ 2 _ (link _ _ 3 _ (link _ _ 4 _ (link _ _ 5 _ (link _ _ 6 _ (link _ _ 7 _ (link _ _ 8 _ (link _ _ 9 _ (link _ _ 10 _ (link _ [] 11 0 none)))))))))));
   moves-nothing = λ n. let k = refused-keeps product w b (λ e. n (a .number ∙ e)) in (a .words ∙ k .table, a .added ∙ k .added, a .removed ∙ k .removed);
 }
 
 -- On a consistent table.
-module _ (w b v : List ℕ) (r : Applied) (t : Table product w) (a : Answered r v (step product w b)) where
+module _ (w b v : List ℕ) (r : Applied) (t : Table product w) (a : ApplyPromise w b r v) where
   zero-number : r .answer ≡ 0 → step product w b .number ≡ 0
   zero-number e = sym (a .number) ∙ e
 
@@ -65,7 +65,8 @@ module _ (w b v : List ℕ) (r : Applied) (t : Table product w) (a : Answered r 
       (a .number ∙ x .0, subst (λ y. Largest (graph (facts product w)) (defs.named (defs.decoded b)) (keeps (defs.named (defs.decoded b))) (graph (facts product y))) (sym (a .words)) (x .1))
 
   -- A repeat of an accepted ticket is accepted, and adds and removes nothing.
-  pub call-repeat : r .answer ≡ 0 → (u : List ℕ) (q : Applied) → Answered q u (step product v b) → (q .answer ≡ 0) × (q .added ≡ 0) × (q .removed ≡ 0) × (u ≡ v)
+  pub call-repeat : r .answer ≡ 0 → (u : List ℕ) (q : Applied) → ApplyPromise v b q u
+      → (q .answer ≡ 0) × (q .added ≡ 0) × (q .removed ≡ 0) × (u ≡ v)
   call-repeat e u q c =
       let z : step product w b .number ≡ 0 = zero-number e in
       let f : Formed product b = passed product w b (sym (step-number product w b) ∙ z) .formed in

@@ -22,9 +22,9 @@ use Rattle.rdfs.proofs.Refusals.{Sane, new, refusal, to-9, pass-link, stop-link
 use Rattle.rdfs.proofs.Steps.{table-sane, table-allowed, step-number, wrong-length}
 use Rattle.rdfs.proofs.InsertionSteps.{new-is}
 use Rattle.rdfs.proofs.Theorems.{product-sound, lookup-clash-is-clash}
-use Rattle.ticket.specs.Form.{formRefusal}
+use Rattle.ticket_form.specs.Form.{formRefusal}
 use Rattle.ticket.specs.Answered.{refusedWith}
-use Rattle.ticket.proofs.Formed.{form-passes, form-refused}
+use Rattle.ticket_form.proofs.Formed.{form-passes, form-refused}
 
 answer-refused : (n : ℕ) (w ws : List ℕ) → (n ≡ 0 → ⊥) → answer n w ws ≡ refusedWith n w
 answer-refused zero w ws d = absurd (d refl)

@@ -30,7 +30,8 @@ use Rattle.table.proofs.Counted.{counted-first, counted-search}
 use Rattle.insertion.specs.Answers.{Insertable, GrowMeans}
 use Rattle.insertion.specs.declared.put.Grown.{Grown}
 use Rattle.insertion.specs.declared.put.Grown.the-variants.{Facts as Grows, Full}
-use Rattle.ticket.specs.Form.{recordOf, Asked, Ready, Possible}
+use Rattle.ticket_form.specs.Form.{recordOf, Asked}
+use Rattle.ticket.specs.Ready.{Ready, Possible}
 use Rattle.ticket.specs.Answered.{Stepped}
 use Rattle.ticket.specs.declared.step.Step.the-variants.{Facts, Refused}
 use Rattle.ticket.proofs.RefusedSteps.{formed-record, looked-clash, unknown-refused, clash-refused, full-refused}

@@ -3,7 +3,7 @@ use Prim.Native.Nat.{ℕ, _-_, _≤_}
 use mathlib.Core.Path.{_≡_}
 use mathlib.Core.List.{List}
 use Rattle.rdfs.specs.Numbers.{product}
-use Rattle.rdfs.specs.Register.{Answer}
+use Rattle.rdfs.specs.Register.{Answer, step}
 use Rattle.ticket.specs.declared.Applied.{Applied}
 use Rattle.ticket.specs.declared.step.Step.{Step}
 use Rattle.ticket.specs.declared.step.Step.the-variants.{Facts, Refused}
@@ -14,6 +14,11 @@ pub record Answered (r : Applied) (exit : List ℕ) (s : Answer) : Type 0 where
   pub added : r .added ≡ s .added
   pub removed : r .removed ≡ s .removed
   pub words : exit ≡ s .table
+
+-- What `apply` promises, for all words w of a table and all bytes of a ticket: it answers r and leaves the words v. The theorems
+-- on the call take this as their premise, and proofs/Tied says that it is the contract in the source.
+abbrev pub ApplyPromise : (w bytes : List ℕ) → Applied → (v : List ℕ) → Type 0
+ApplyPromise w bytes r v = Answered r v (step product w bytes)
 
 -- Document 01's number and counts for each case of an inner step on a table of n facts.
 abbrev pub numberOf : Step → ℕ

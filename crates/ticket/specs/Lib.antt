@@ -1,3 +1,3 @@
-pub mod Form
+pub mod Ready
 pub mod Answered
 pub mod Demand1

@@ -1,4 +1,4 @@
-// One ticket on a lent table: its form, refusals 1 to 11, the insertion or the deletion.
+// One ticket on a lent table: refusals 1 to 11, the insertion or the deletion.
 //
 // The public call is `apply`. It has no `requires`: it says, for all words of a table and all bytes of a ticket, the answer, both counts and
 // every word afterwards; they are those of the plain register. The other functions serve the crates above: `apply_checked` is the same on a
@@ -9,28 +9,24 @@
 // does not fit, 11.
 ghost use Rattle.rdfs.specs.Numbers.{product};
 ghost use Rattle.rdfs.specs.Register.{step, Table};
-ghost use Rattle.ticket.specs.Form.{bytesOf};
+ghost use Rattle.ticket_form.specs.Form.{bytesOf};
 ghost use Rattle.ticket.specs.Answered.{Answered};
 use crate::answer::answer_of;
 use crate::answer::refused;
-use crate::form::INSERT;
-use crate::form::decode;
-use crate::form::form_refusal;
-use crate::form::wide;
 use crate::step::run_deletion;
 use crate::step::run_insertion;
 use consistency::check;
+use ticket_form::INSERT;
+use ticket_form::RECORD;
+use ticket_form::Ticket;
+use ticket_form::decode;
+use ticket_form::form_refusal;
+use ticket_form::wide;
 use table::Word;
 use table::count_facts;
 
 mod answer;
-mod form;
-mod ids;
-mod state;
 mod step;
-
-pub use form::RECORD;
-pub use form::Ticket;
 
 // Refusal 4: the length of a record.
 pub const BAD_LENGTH: u8 = 4;

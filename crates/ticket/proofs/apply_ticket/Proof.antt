@@ -3,7 +3,7 @@ use mathlib.Core.Path.{refl, sym, subst}
 use denote.Ref.{now}
 use Rattle.rdfs.specs.Numbers.{product}
 use Rattle.rdfs.specs.Register.{step}
-use Rattle.ticket.specs.Form.{bytesOf}
+use Rattle.ticket_form.specs.Form.{bytesOf}
 use Rattle.ticket.specs.Answered.{Stepped}
 use Rattle.ticket.proofs.RefusedSteps.{form-refused-as}
 use Rattle.ticket.proofs.AcceptedSteps.{count-fits}

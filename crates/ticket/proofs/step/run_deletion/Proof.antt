@@ -1,7 +1,7 @@
 -- `step::run_deletion`: what is left is the register's. Assumes nothing.
 use mathlib.Core.Path.{refl}
 use borrow.Author.Needs.{needs}
-use Rattle.ticket.proofs.Formed.{formed-ids, formed-shaped}
+use Rattle.ticket_form.proofs.Formed.{formed-ids, formed-shaped}
 use Rattle.ticket.proofs.Ways.{ready-asked, way-deleted}
 use Rattle.ticket.proofs.step.run_deletion.Statement.{statement}
 use Rattle.ticket.proofs.step.run_deletion.Tie as tie

@@ -1,6 +1,6 @@
 -- `step::run_insertion`: each way does as the register. Assumes nothing.
 use mathlib.Core.Path.{sym, _∙_}
-use Rattle.ticket.proofs.Formed.{formed-ids}
+use Rattle.ticket_form.proofs.Formed.{formed-ids}
 use Rattle.ticket.proofs.Ways.{ready-asked, way-unknown, way-there, way-clash}
 use borrow.Author.Needs.{needs}
 use Rattle.ticket.proofs.step.run_insertion.Statement.{statement}

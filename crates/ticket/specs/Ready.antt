@@ -1,0 +1,25 @@
+-- What the inner steps ask of a table and a ticket.
+use Prim.Native.Nat.{ℕ}
+use mathlib.Core.Path.{_≡_}
+use mathlib.Core.Bool.{false}
+use mathlib.Core.List.{List}
+use lib.ListN.{length}
+use Rattle.rdfs.specs.Numbers.{product}
+use Rattle.rdfs.specs.Tickets as defs
+use Rattle.rdfs.specs.Words.{filled}
+use Rattle.rdfs.specs.Lookups.{lookupClash}
+use Rattle.rdfs.specs.Register.{Table}
+use Rattle.table.specs.Counted.{factsOf}
+use Rattle.ticket_form.specs.Form.{formRefusal}
+
+-- A consistent table with n facts, and a ticket past the first eight refusals.
+pub record Ready (t : List ℕ) (n o k a b c : ℕ) : Type 0 where
+  pub table : Table product t
+  pub size : n ≡ length (filled t)
+  pub formed : formRefusal (defs.ticketOf o k a b c) ≡ 0
+
+-- An insertion past refusal 10.
+pub record Possible (t : List ℕ) (n k a b c : ℕ) : Type 0 where
+  pub ready : Ready t n 1 k a b c
+  pub known : defs.unknownProperty (factsOf t) (defs.ticketOf 1 k a b c) ≡ false
+  pub free : lookupClash (factsOf t) (defs.ticketOf 1 k a b c) ≡ false
