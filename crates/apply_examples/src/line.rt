@@ -2,9 +2,9 @@
 ghost use mathlib.Core.Path.{_≡_};
 ghost use Prim.Native.Nat.{_+_, _≤_};
 ghost use lib.ListN.{length};
-use ticket_form::RECORD;
 use table::MOST;
 use text::digit_of;
+use ticket_form::RECORD;
 
 // A ticket with the blank before it.
 pub const STEP: usize = 11;

@@ -8,7 +8,6 @@ mod report;
 use compare::count_of;
 use compare::is_then;
 use damage::print_changes;
-use ticket_form::RECORD;
 use image::read;
 use image::write;
 use parts::print_bodies;
@@ -21,6 +20,7 @@ use table::MOST;
 use table::Word;
 use table::fresh;
 use ticket::apply;
+use ticket_form::RECORD;
 
 // The words of the table, and the bytes that its image is written into.
 const WORDS: usize = 16;

@@ -10,10 +10,10 @@ use crate::Listed;
 use crate::answers::list_refusal;
 use crate::answers::put_number;
 use crate::answers::sum_up;
-use ticket_form::RECORD;
 use table::Word;
 use ticket::apply;
 use ticket::apply_checked;
+use ticket_form::RECORD;
 
 // How many tickets n bytes make.
 fn count_tickets(n: usize) -> usize

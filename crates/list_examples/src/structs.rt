@@ -2,10 +2,10 @@
 ghost use mathlib.Core.Path.{_≡_};
 ghost use Rattle.list.specs.Listing.{listing, ListAnswered, recordBytes};
 ghost use Rattle.list_examples.specs.Case.{caseBytes};
-use ticket_form::Ticket;
 use list::Listed;
 use records::apply_records;
 use table::Word;
+use ticket_form::Ticket;
 
 // The five tickets of document 01's case.
 fn case_tickets() -> [Ticket; 5]

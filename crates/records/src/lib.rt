@@ -13,13 +13,13 @@ ghost use Rattle.ticket_form.specs.Form.{bytesOf};
 ghost use Rattle.list.specs.Listing.{listing, ListAnswered, recordBytes};
 ghost use Rattle.list.specs.Loops.{OneRun, AllRun};
 ghost use Rattle.records.specs.Turns.{blank, turnsOf};
-use ticket_form::Ticket;
 use list::Listed;
 use list::list_refusal;
 use list::put_number;
 use list::sum_up;
 use table::Word;
 use ticket::apply_ticket;
+use ticket_form::Ticket;
 
 // How many tickets of a list are run: none if it is refused.
 fn count_turns(answer: u8, n: usize) -> usize

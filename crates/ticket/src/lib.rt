@@ -16,14 +16,14 @@ use crate::answer::refused;
 use crate::step::run_deletion;
 use crate::step::run_insertion;
 use consistency::check;
+use table::Word;
+use table::count_facts;
 use ticket_form::INSERT;
 use ticket_form::RECORD;
 use ticket_form::Ticket;
 use ticket_form::decode;
 use ticket_form::form_refusal;
 use ticket_form::wide;
-use table::Word;
-use table::count_facts;
 
 mod answer;
 mod step;

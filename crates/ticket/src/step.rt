@@ -10,14 +10,14 @@ ghost use Rattle.ticket.specs.Ready.{Ready, Possible};
 ghost use Rattle.ticket.specs.Answered.{Stepped};
 use clash::clashes;
 use deletion::delete;
-use ticket_form::has_asked;
-use ticket_form::is_unknown_property;
 use insertion::Grown;
 use insertion::grow;
 use table::MOST;
 use table::Word;
 use table::clear_from;
 use table::copy_words;
+use ticket_form::has_asked;
+use ticket_form::is_unknown_property;
 
 // Refusal 9: a property that the table lacks.
 pub const UNKNOWN_PROPERTY: u8 = 9;
