@@ -1,4 +1,4 @@
-//! The two programs, run as processes on their standard input.
+//! The programs, run as processes on their standard input.
 
 use std::env;
 use std::io::Write;
@@ -19,6 +19,11 @@ impl Program {
     /// Program two: VIMELOSA_PRINT_FACTS, or target/bin/print_facts of the repository.
     pub fn two() -> Program {
         Program::find("VIMELOSA_PRINT_FACTS", "../target/bin/print_facts")
+    }
+
+    /// The calls by a script: VIMELOSA_RUN_CALLS, or target/bin/run_calls of the repository.
+    pub fn calls() -> Program {
+        Program::find("VIMELOSA_RUN_CALLS", "../target/bin/run_calls")
     }
 
     fn find(variable: &str, place: &str) -> Program {

@@ -6,6 +6,7 @@
 pub mod calls;
 pub mod damage;
 pub mod graphs;
+pub mod scripts;
 pub mod tickets;
 
 use std::env;
