@@ -16,12 +16,18 @@ fn assert_same(program: &Program, script: &str) {
     assert!(printed == expected, "from line {place:?} on of what is printed for\n{script}");
 }
 
+/// Of each of the sets of ids in turn, with many deletions.
+fn random_script(random: &mut Random, round: usize) -> String {
+    let ids = Ids { deletions: 3, ..ALL_IDS[round % 4] };
+    script(random, &ids, 120)
+}
+
 #[test]
 fn on_random_scripts() {
     let program = Program::calls();
     let mut random = Random::for_test("run_calls_on_random_scripts");
     for round in 0..rounds(60) {
-        assert_same(&program, &script(&mut random, &ALL_IDS[round % 4], 120));
+        assert_same(&program, &random_script(&mut random, round));
     }
 }
 
@@ -31,7 +37,7 @@ fn random_scripts_meet_every_answer() {
     let mut random = Random::for_test("run_calls_on_random_scripts");
     let mut met = BTreeSet::new();
     for round in 0..60 {
-        let printed = run_script(&script(&mut random, &ALL_IDS[round % 4], 120));
+        let printed = run_script(&random_script(&mut random, round));
         let answers = printed.lines().map(|line| line.split(' ').take(2).collect::<Vec<_>>().join(" "));
         met.extend(answers);
     }

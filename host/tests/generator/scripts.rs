@@ -97,7 +97,7 @@ fn list_line(random: &mut Random, ids: &Ids) -> String {
     }
     let count = random.below(12);
     let bytes = list(random, ids, count);
-    let room = (bytes.len() + 4) / 5 + 3 - random.below(5).min(4);
+    let room = ((bytes.len() + 4) / 5 + 3).saturating_sub(random.below(5));
     format!("{} {room} {}", random.pick(&["list", "each"]), hexadecimal(&bytes))
 }
 
