@@ -1,20 +1,16 @@
-// A line of the script: its name, its number, its bytes.
-ghost use Prim.Native.Nat.{_+_, _≤_, _<_};
+// A line of the script: its name and its bytes.
+ghost use Prim.Native.Nat.{_+_, _≤_};
 ghost use lib.ListN.{length};
 ghost use Rattle.io.specs.Counts.{Counts};
-use crate::command::Lengths;
-use crate::command::Line;
-use crate::command::is_numbered;
+use crate::command::NAMES;
 use crate::command::run;
 use crate::compare::is_same;
+use crate::report::print_text;
 use table::Word;
 use text::digit_of;
 
-// The most that a number counts.
-const TOP: usize = 9999;
-
 // The bytes that a line can have.
-const DATA: usize = 8196;
+const BYTES: usize = 8200;
 
 // The place of the first byte x from place i on; the length where there is none.
 fn find_byte(text: &[u8], i: usize, x: u8) -> usize
@@ -47,27 +43,6 @@ fn find_name(names: &[u8], name: &[u8]) -> usize {
     k
 }
 
-// The smaller of n and the most that a number counts.
-fn at_most(n: usize) -> usize
-    ensures { λ r. ⌜ r ≤ 9999 ⌝ }
-{
-    if n < TOP {
-        return n;
-    }
-    TOP
-}
-
-// The number of a text; a byte that is no digit counts as 0.
-fn number_of(text: &[u8]) -> usize {
-    let mut n = 0;
-    let mut i = 0;
-    while i < text.len() {
-        n = at_most(10 * n + digit_of(text[i]) as usize);
-        i += 1;
-    }
-    n
-}
-
 // The byte whose two digits stand from place i on.
 fn byte_at(text: &[u8], i: usize) -> u8
     requires { ⌜ i + 2 ≤ length (now text) ⌝ }
@@ -96,74 +71,50 @@ fn put_data(text: &[u8], out: &mut [u8]) -> usize
     n
 }
 
-// Where a line's bytes start: behind its number, which ends at f, or behind its name, which ends at e.
-fn data_start(name: usize, e: usize, f: usize) -> usize
-    requires { ⌜ e ≤ f ⌝ }
-    ensures { λ r. ⌜ r ≤ f ⌝ }
-{
-    let numbered = is_numbered(name);
-    if numbered {
-        return f;
-    }
-    e
+// Runs the command of a name with the bytes of a text. The answer is how many words the table has then.
+fn run_on(name: usize, text: &[u8], words: &mut [Word], n: usize, kept: &mut [Word]) -> usize {
+    let mut given = [0u8; BYTES];
+    let k = put_data(text, &mut given);
+    run(name, &mut given[..k], words, n, kept)
 }
 
-// Where the number of a line ends whose name ends at e: at the second blank.
-fn number_end(line: &[u8], e: usize) -> usize
+// Runs a line whose name ends at e, and prints its line.
+fn run_named(line: &[u8], e: usize, words: &mut [Word], n: usize, kept: &mut [Word]) -> usize
     requires { ⌜ e ≤ length (now line) ⌝ }
-    ensures { λ r. ⌜ (e ≤ r) × (r ≤ length (now (line .entry))) ⌝ }
 {
-    if e == line.len() {
-        return e;
-    }
-    find_byte(line, e + 1, b' ')
-}
-
-// The line is empty or a comment.
-fn is_passed_over(line: &[u8]) -> bool {
-    if line.len() == 0 {
-        return true;
-    }
-    line[0] == b'#'
-}
-
-// Runs one line. The answer is the lengths afterwards.
-fn run_line(
-    line: &[u8],
-    words: &mut [Word],
-    kept: &mut [Word],
-    image: &mut [u8],
-    l: Lengths,
-) -> Lengths {
-    let passed = is_passed_over(line);
-    if passed {
-        return l;
-    }
-    let e = find_byte(line, 0, b' ');
     let name = find_name(
-        b"table fill keep back same set cut image append bytes body list each records fresh check lookup \
-apply facts words write read damage",
+        b"table list each records write body fresh check lookup apply read facts words keep back same damage",
         &line[..e],
     );
-    let f = number_end(line, e);
-    let number = number_of(&line[e..f]);
-    let start = data_start(name, e, f);
-    let mut given = [0u8; DATA];
-    let n = put_data(&line[start..], &mut given);
-    run(Line { name, number }, &given[..n], words, kept, image, l)
+    if name == NAMES {
+        print_text(b"?\n");
+        return n;
+    }
+    print_text(&line[..e]);
+    let length = run_on(name, &line[e..], words, n, kept);
+    print_text(b"\n");
+    length
+}
+
+// Runs a line, unless it is empty or a comment.
+fn run_line(line: &[u8], words: &mut [Word], n: usize, kept: &mut [Word]) -> usize {
+    if line.len() == 0 {
+        return n;
+    }
+    if line[0] == b'#' {
+        return n;
+    }
+    let e = find_byte(line, 0, b' ');
+    run_named(line, e, words, n, kept)
 }
 
 // The lines of a text in turn.
-pub fn run_lines(text: &[u8], words: &mut [Word], kept: &mut [Word], image: &mut [u8]) {
-    let mut l = Lengths {
-        table: 0,
-        kept: 0,
-        image: 0,
-    };
+pub fn run_lines(text: &[u8], words: &mut [Word], kept: &mut [Word]) {
+    let mut n = 0;
     let mut i = 0;
     while i < text.len() {
         let e = find_byte(text, i, b'\n');
-        l = run_line(&text[i..e], words, kept, image, l);
+        n = run_line(&text[i..e], words, n, kept);
         i = e + 1;
     }
 }

@@ -1,4 +1,4 @@
-// Parts of lines: texts, numbers, bytes, words, the name of a rule.
+// Parts of lines: numbers, bytes, words, a rule.
 ghost use Prim.Native.Nat.{_≤_};
 ghost use lib.ListN.{length};
 use consistency::Rule;
@@ -9,19 +9,23 @@ pub fn print_text(text: &[u8]) {
     io::write_all(STDOUT_FILENO, text);
 }
 
-// A number after a text.
-pub fn print_number(text: &[u8], n: usize) {
-    io::write_all(STDOUT_FILENO, text);
+// A number, after a blank.
+pub fn print_number(n: usize) {
+    print_text(b" ");
     io::print_decimal(STDOUT_FILENO, n as u64);
 }
 
-// The first text where the test holds, else the second.
-pub fn print_test(test: bool, holds: &[u8], fails: &[u8]) {
+pub fn print_answer(answer: u8) {
+    print_number(answer as usize);
+}
+
+// 1 where the test holds, else 0.
+pub fn print_test(test: bool) {
     if test {
-        print_text(holds);
+        print_number(1);
         return;
     }
-    print_text(fails);
+    print_number(0);
 }
 
 // A number in hexadecimal, of at least so many digits, after a blank.
@@ -38,14 +42,12 @@ fn print_word(w: Word) {
     print_digits(w as u64, 8);
 }
 
-// Bytes, a blank before each, and a newline.
 pub fn print_bytes(bytes: &[u8]) {
     let mut i = 0;
     while i < bytes.len() {
         print_byte(bytes[i]);
         i += 1;
     }
-    print_text(b"\n");
 }
 
 // How many words there are up to the last that is not 0.
@@ -62,22 +64,18 @@ fn count_words(t: &[Word]) -> usize
     n
 }
 
-// The line of that number.
 pub fn print_facts(t: &[Word]) {
-    print_number(b"facts ", count_words(t));
-    print_text(b"\n");
+    print_number(count_words(t));
 }
 
-// The line of these words.
+// The words up to the last that is not 0.
 pub fn print_words(t: &[Word]) {
-    print_text(b"words");
     let n = count_words(t);
     let mut i = 0;
     while i < n {
         print_word(t[i]);
         i += 1;
     }
-    print_text(b"\n");
 }
 
 // The number of a rule in Fig. 3; 27 more than its own for H1 to H4.
@@ -114,12 +112,13 @@ fn number_of(rule: Rule) -> usize {
     }
 }
 
-// A rule by its name, after a blank.
+// A rule by its number; H1 to H4 after an H.
 pub fn print_rule(rule: Rule) {
     let n = number_of(rule);
     if n <= 27 {
-        print_number(b" ", n);
+        print_number(n);
         return;
     }
-    print_number(b" H", n - 27);
+    print_text(b" H");
+    io::print_decimal(STDOUT_FILENO, (n - 27) as u64);
 }

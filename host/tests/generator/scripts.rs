@@ -13,8 +13,8 @@ pub fn hexadecimal(bytes: &[u8]) -> String {
 
 /// The line of a table of so many words, which are these and then zeros.
 pub fn table_line(length: usize, words: &[u32]) -> String {
-    let words: String = words.iter().map(|word| format!(" {word:08x}")).collect();
-    format!("table {length}{words}")
+    let words: String = words.iter().chain(&[0]).map(|word| format!(" {word:08x}")).collect();
+    format!("table {length:04x}{words}")
 }
 
 pub fn words_of(graph: &Graph) -> Vec<u32> {
@@ -68,15 +68,13 @@ fn spoil(random: &mut Random, words: &mut Vec<u32>) {
 }
 
 fn command(random: &mut Random, ids: &Ids) -> String {
-    match random.below(26) {
+    match random.below(24) {
         0..=6 => format!("apply {}", hexadecimal(&any_ticket(random, ids))),
         7 | 8 => list_line(random, ids),
-        9 | 10 => image_line(random, ids),
-        11 => change_line(random),
-        12 | 13 => "read".to_string(),
-        14 => format!("write {}", random.pick(&[0, 62, 63, 80, 100, 150, 250, 8196])),
-        15 => format!("body {} {:02x}", random.below(120), random.below(13)),
-        16 => format!("lookup {:08x}", some_word(random, ids)),
+        9..=11 => format!("read {}", hexadecimal(&some_image(random, ids))),
+        12 => format!("write {:04x}", random.pick(&[0, 62, 63, 80, 100, 150, 250, 700])),
+        13 | 14 => format!("body {:04x} {}", random.below(13), hexadecimal(&some_image(random, ids))),
+        15 | 16 => format!("lookup {:08x}", some_word(random, ids)),
         17 => "check".to_string(),
         _ => other_line(random),
     }
@@ -93,12 +91,12 @@ fn some_word(random: &mut Random, ids: &Ids) -> u32 {
 fn list_line(random: &mut Random, ids: &Ids) -> String {
     if random.is_one_in(3) {
         let bytes: Vec<u8> = (0..5).flat_map(|_| bad_or_good(random, ids)).collect();
-        return format!("records {} {}", 3 + random.below(5), hexadecimal(&bytes));
+        return format!("records {:04x} {}", 3 + random.below(5), hexadecimal(&bytes));
     }
     let count = random.below(12);
     let bytes = list(random, ids, count);
     let room = ((bytes.len() + 4) / 5 + 3).saturating_sub(random.below(5));
-    format!("{} {room} {}", random.pick(&["list", "each"]), hexadecimal(&bytes))
+    format!("{} {room:04x} {}", random.pick(&["list", "each"]), hexadecimal(&bytes))
 }
 
 fn bad_or_good(random: &mut Random, ids: &Ids) -> [u8; 5] {
@@ -110,23 +108,17 @@ fn bad_or_good(random: &mut Random, ids: &Ids) -> [u8; 5] {
 }
 
 /// An image, half of the time damaged.
-fn image_line(random: &mut Random, ids: &Ids) -> String {
+fn some_image(random: &mut Random, ids: &Ids) -> Vec<u8> {
     let whole = image(&some_graph(random, ids));
-    let bytes = if random.is_one_in(2) { damaged(random, &whole) } else { whole };
-    format!("image {}", hexadecimal(&bytes))
-}
-
-/// Damage to the image, or more of it.
-fn change_line(random: &mut Random) -> String {
-    match random.below(3) {
-        0 => format!("set {} {:02x}", random.below(120), random.byte() % 12),
-        1 => format!("cut {}", random.below(120)),
-        _ => format!("append {:02x}", random.byte() % 12),
+    if random.is_one_in(2) {
+        damaged(random, &whole)
+    } else {
+        whole
     }
 }
 
 fn other_line(random: &mut Random) -> String {
     let names =
-        ["words", "words", "same", "same", "keep", "back", "facts", "bytes", "fresh", "fill 00000000", "?", "read now"];
+        ["words", "words", "same", "same", "keep", "back", "facts", "fresh", "read", "unknown", "# passed over"];
     random.pick(&names).to_string()
 }

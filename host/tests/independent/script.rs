@@ -7,122 +7,105 @@ use super::rules::each_demand;
 use super::table::{check, facts_of, fresh, lookup};
 use super::ticket::apply;
 
-/// The most words, image bytes and answer bytes that a script can lend, and the highest number.
+/// The most words, output bytes and answer bytes that a script can lend.
 const WORDS: usize = 2049;
-const BYTES: usize = 8196;
+const OUTPUT: usize = 8200;
 const ANSWERS: usize = 2048;
-const NUMBERS: usize = 9999;
-
-/// The commands that have a number.
-const NUMBERED: [&str; 8] = ["table", "set", "cut", "body", "list", "each", "records", "write"];
 
 /// What the lines of a script print.
 pub fn run_script(script: &str) -> String {
-    let mut state = State::default();
+    let mut state = State { table: Vec::new(), copy: vec![0; WORDS] };
     let lines = script.lines().filter(|line| !line.is_empty() && !line.starts_with('#'));
-    lines.map(|line| state.run(&Line::of(line))).collect()
+    lines.map(|line| state.run_line(line)).collect()
 }
 
-/// A command with what belongs to it.
-struct Line<'a> {
-    name: &'a str,
-    number: usize,
-    given: Vec<u8>,
+/// What belongs to a command.
+struct Given {
+    bytes: Vec<u8>,
 }
 
-impl Line<'_> {
-    fn of(line: &str) -> Line<'_> {
-        let (name, rest) = line.split_once(' ').unwrap_or((line, ""));
-        if !NUMBERED.contains(&name) {
-            return Line { name, number: 0, given: bytes_of(rest) };
+impl Given {
+    /// The bytes of hexadecimal digits, with blanks between.
+    fn of(text: &str) -> Given {
+        let digits: Vec<u32> = text.chars().filter(|x| *x != ' ').map(|x| x.to_digit(16).unwrap_or(0)).collect();
+        Given { bytes: digits.chunks_exact(2).map(|pair| (16 * pair[0] + pair[1]) as u8).collect() }
+    }
+
+    /// The number of the first two bytes, and the bytes after them.
+    fn number_and_rest(&self) -> (usize, &[u8]) {
+        match &self.bytes[..] {
+            [high, low, rest @ ..] => (256 * usize::from(*high) + usize::from(*low), rest),
+            _ => (0, &[]),
         }
-        let (digits, rest) = rest.split_once(' ').unwrap_or((rest, ""));
-        let more = |number: usize, digit: u32| (10 * number + digit as usize).min(NUMBERS);
-        let number = digits.chars().map(|digit| digit.to_digit(10).unwrap_or(0)).fold(0, more);
-        Line { name, number, given: bytes_of(rest) }
-    }
-
-    /// The words that are given, highest byte first.
-    fn words(&self) -> Vec<u32> {
-        let word = |four: &[u8]| four.iter().fold(0, |word, byte| word << 8 | u32::from(*byte));
-        self.given.chunks_exact(4).map(word).collect()
-    }
-
-    fn word(&self) -> u32 {
-        self.words().first().copied().unwrap_or(0)
     }
 }
 
-/// The bytes of hexadecimal digits, with blanks between.
-fn bytes_of(text: &str) -> Vec<u8> {
-    let digits: Vec<u32> = text.chars().filter(|x| *x != ' ').map(|x| x.to_digit(16).unwrap_or(0)).collect();
-    digits.chunks_exact(2).map(|pair| (16 * pair[0] + pair[1]) as u8).take(BYTES).collect()
+/// The words of bytes, highest byte first.
+fn words_of(bytes: &[u8]) -> Vec<u32> {
+    let word = |four: &[u8]| four.iter().fold(0, |word, byte| word << 8 | u32::from(*byte));
+    bytes.chunks_exact(4).map(word).collect()
 }
 
-/// Bytes, a blank before each.
+/// Bytes in hexadecimal, a blank before each.
 fn shown(bytes: &[u8]) -> String {
     bytes.iter().map(|byte| format!(" {byte:02x}")).collect()
 }
 
-fn there(is_there: bool) -> &'static str {
-    if is_there {
-        "there"
-    } else {
-        "not there"
-    }
-}
-
-/// The table, its copy, and the image.
-#[derive(Default)]
+/// The table, and the copy of its words.
 struct State {
     table: Vec<u32>,
-    kept: Vec<u32>,
-    image: Vec<u8>,
+    copy: Vec<u32>,
 }
 
 impl State {
-    fn run(&mut self, line: &Line) -> String {
-        match line.name {
-            "fresh" => format!("fresh {}\n", fresh(&mut self.table)),
-            "check" => self.check(),
-            "lookup" => self.lookup(line.word()),
-            "apply" => self.apply(&line.given),
-            "list" | "each" => self.list(line),
-            "records" if line.given.len() == 25 => self.list(line),
-            "write" => self.write(line.number.min(BYTES)),
-            "read" => format!("read {}\n", read(&self.image, &mut self.table)),
-            "body" => self.body(line.number, line.given.first().copied().unwrap_or(0)),
-            "damage" => self.damage(),
-            "facts" => format!("facts {}\n", self.words().len()),
-            "words" => format!("words{}\n", self.words().iter().map(|word| format!(" {word:08x}")).collect::<String>()),
-            "bytes" => format!("bytes{}\n", shown(&self.image)),
-            "same" if self.table == self.kept => "same\n".to_string(),
-            "same" => "differs\n".to_string(),
-            _ => self.change(line),
+    fn run_line(&mut self, line: &str) -> String {
+        let (name, rest) = line.split_once(' ').unwrap_or((line, ""));
+        match self.run(name, &Given::of(rest)) {
+            Some(printed) => format!("{name}{printed}\n"),
+            None => "?\n".to_string(),
         }
     }
 
-    /// The commands that print nothing; a question mark for what is no command.
-    fn change(&mut self, line: &Line) -> String {
-        match line.name {
+    /// What a command prints after its name; none if it is no command.
+    fn run(&mut self, name: &str, given: &Given) -> Option<String> {
+        Some(match name {
+            "fresh" => format!(" {}", fresh(&mut self.table)),
+            "check" => self.check(),
+            "lookup" => self.lookup(&given.bytes),
+            "apply" => self.apply(&given.bytes),
+            "list" | "each" => self.list(given),
+            "records" if given.bytes.len() != 27 => " ?".to_string(),
+            "records" => self.list(given),
+            "write" => self.write(given),
+            "read" => format!(" {}", read(&given.bytes, &mut self.table)),
+            "body" => self.body(given),
+            "damage" => self.damage(&given.bytes),
+            "facts" => format!(" {}", self.words().len()),
+            "words" => self.words().iter().map(|word| format!(" {word:08x}")).collect(),
+            "same" => format!(" {}", u8::from(self.copy.starts_with(&self.table))),
+            _ => return self.change(name, given),
+        })
+    }
+
+    /// The commands that print only their name.
+    fn change(&mut self, name: &str, given: &Given) -> Option<String> {
+        match name {
             "table" => {
-                self.table = line.words();
-                self.table.resize(line.number.min(WORDS), 0);
+                let (number, rest) = given.number_and_rest();
+                self.table = words_of(rest);
+                let last = self.table.last().copied().unwrap_or(0);
+                self.table.resize(number.min(WORDS), last);
             }
-            "fill" => self.table.fill(line.word()),
-            "keep" => self.kept = self.table.clone(),
-            "back" => self.table = self.kept.clone(),
-            "image" => self.image = line.given.clone(),
-            "append" => self.image.extend(&line.given),
-            "set" => {
-                let places = self.image.iter_mut().skip(line.number);
-                places.zip(&line.given).for_each(|(place, byte)| *place = *byte);
-            }
-            "cut" => self.image.truncate(line.number),
-            _ => return "?\n".to_string(),
+            "keep" => self.copy[..self.table.len()].copy_from_slice(&self.table),
+            "back" => self.restore(),
+            _ => return None,
         }
-        self.image.truncate(BYTES);
-        String::new()
+        Some(String::new())
+    }
+
+    fn restore(&mut self) {
+        let length = self.table.len();
+        self.table.copy_from_slice(&self.copy[..length]);
     }
 
     /// The words up to the last that is not 0.
@@ -135,7 +118,7 @@ impl State {
     fn check(&self) -> String {
         let answer = check(&self.table);
         if answer != 3 {
-            return format!("check {answer}\n");
+            return format!(" {answer}");
         }
         let graph = facts_of(&self.table).expect("the table is laid out");
         let mut first = u8::MAX;
@@ -145,63 +128,60 @@ impl State {
             }
         });
         match first {
-            101.. => format!("check 3 H{}\n", first - 100),
-            _ => format!("check 3 {first}\n"),
+            101.. => format!(" 3 H{}", first - 100),
+            _ => format!(" 3 {first}"),
         }
     }
 
-    fn lookup(&self, word: u32) -> String {
+    fn lookup(&self, bytes: &[u8]) -> String {
+        let word = words_of(bytes).first().copied().unwrap_or(0);
         let (answer, present) = lookup(&self.table, word);
-        format!("lookup {answer} {}\n", there(present))
+        format!(" {answer} {}", u8::from(present))
     }
 
     fn apply(&mut self, ticket: &[u8]) -> String {
         let answer = apply(&mut self.table, ticket);
-        format!("apply {} {} {}\n", answer.number, answer.added, answer.removed)
+        format!(" {} {} {}", answer.number, answer.added, answer.removed)
     }
 
-    fn list(&mut self, line: &Line) -> String {
-        let mut answers = vec![0xff; line.number.min(ANSWERS)];
-        let answer = apply_list(&mut self.table, &line.given, &mut answers);
-        let (number, accepted, refused) = (answer.number, answer.accepted, answer.refused);
-        format!("{} {number} {accepted} {refused}{}\n", line.name, shown(&answers))
+    fn list(&mut self, given: &Given) -> String {
+        let (room, list) = given.number_and_rest();
+        let mut answers = vec![0xff; room.min(ANSWERS)];
+        let answer = apply_list(&mut self.table, list, &mut answers);
+        format!(" {} {} {}{}", answer.number, answer.accepted, answer.refused, shown(&answers))
     }
 
-    fn write(&mut self, room: usize) -> String {
-        let mut output = vec![0xff; room];
+    fn write(&self, given: &Given) -> String {
+        let mut output = vec![0xff; given.number_and_rest().0.min(OUTPUT)];
         let (answer, length) = write(&self.table, &mut output);
-        let untouched = output[length..].iter().filter(|byte| **byte == 0xff).count();
-        self.image = output[..length].to_vec();
-        format!("write {answer} {length} {untouched}\n")
+        format!(" {answer} {length}{}", shown(&output))
     }
 
-    fn body(&self, at: usize, kind: u8) -> String {
-        let part = body(&self.image, kind);
-        let is_there = self.image.get(at..at + part.len()) == Some(part);
-        format!("body {} {}{}\n", part.len(), there(is_there), shown(part))
+    fn body(&self, given: &Given) -> String {
+        let (number, image) = given.number_and_rest();
+        let part = body(image, u8::try_from(number).unwrap_or(0));
+        format!(" {}{}", part.len(), shown(part))
     }
 
-    /// How many of the images with one byte changed are refused with 12, 11 and 3, how many are read and are the image of
-    /// what was read, and how many are neither.
-    fn damage(&self) -> String {
+    /// How often reading the image with each byte set to each value gives each answer; a 0 for an image that is not the
+    /// table's counts as 13, and a refusal that does not leave the copy's words as 14.
+    fn damage(&mut self, image: &[u8]) -> String {
         let mut met = [0; 15];
-        let (otherwise, other) = (13, 14);
-        for place in 0..self.image.len() {
-            for byte in (0..=255).filter(|byte| *byte != self.image[place]) {
-                let mut changed = self.image.clone();
+        for place in 0..image.len() {
+            for byte in 0..=255 {
+                let mut changed = image.to_vec();
                 changed[place] = byte;
-                let mut table = self.table.clone();
-                let outcome = match read(&changed, &mut table) {
-                    0 if is_image_of(&changed, &table) => 0,
-                    0 => otherwise,
-                    answer @ (3 | 11 | 12) if table == self.table => usize::from(answer),
-                    _ => other,
+                let outcome = match read(&changed, &mut self.table) {
+                    0 if is_image_of(&changed, &self.table) => 0,
+                    0 => 13,
+                    answer if self.copy.starts_with(&self.table) => answer,
+                    _ => 14,
                 };
-                met[outcome] += 1;
+                met[usize::from(outcome)] += 1;
+                self.restore();
             }
         }
-        let refused = format!("12 {} 11 {} 3 {}", met[12], met[11], met[3]);
-        format!("damage {refused} itself {} otherwise {} else {}\n", met[0], met[otherwise], met[other])
+        met.map(|count: usize| format!(" {count}")).concat()
     }
 }
 

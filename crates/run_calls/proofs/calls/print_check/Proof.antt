@@ -9,18 +9,12 @@ use Rattle.run_calls.proofs.calls.print_check.Tie as tie
 check-requires : tie.Need-check-requires
 check-requires c κs = search needs
 
-slice-aggregate-print-number : tie.Need-slice-aggregate-print-number
-slice-aggregate-print-number c = search needs
-
-cast-print-number : tie.Need-cast-print-number
-cast-print-number c = search needs
-
-print-number-requires : tie.Need-print-number-requires
-print-number-requires c κs = search needs
+print-answer-requires : tie.Need-print-answer-requires
+print-answer-requires c κs = search needs
 
 first-broken-requires : tie.Need-first-broken-requires
 first-broken-requires c κs =
-    let at-check = c .before .before .before in
+    let at-check = c .before .before in
     let entry = at-check .before .before in
     refused-laid (now (entry .args .t)) (sym (c .if1 .taken) ∙ at-check .check .ensures)
 
@@ -33,27 +27,25 @@ print-rule-requires c κs = search needs
 enum-told : tie.Need-enum-told
 enum-told c = search needs
 
-slice-aggregate-print-text : tie.Need-slice-aggregate-print-text
-slice-aggregate-print-text c = search needs
-
-print-text-requires : tie.Need-print-text-requires
-print-text-requires c κs = search needs
-
 returns : tie.Need-returns
 returns c = search needs
+
+returns-2 : tie.Need-returns-2
+returns-2 c = search needs
+
+returns-3 : tie.Need-returns-3
+returns-3 c = search needs
 
 pub print-check-spec : {M : Type 1} → statement M
 print-check-spec =
     tie.close
     (tie.spec
     check-requires
-    slice-aggregate-print-number
-    cast-print-number
-    print-number-requires
+    print-answer-requires
     first-broken-requires
     enum-known-visited
     print-rule-requires
     enum-told
-    slice-aggregate-print-text
-    print-text-requires
-    returns)
+    returns
+    returns-2
+    returns-3)

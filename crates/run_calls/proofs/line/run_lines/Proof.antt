@@ -1,4 +1,4 @@
--- `run_lines`: table, copy and image keep their lengths. The measure is what is left of the text. Assumes nothing.
+-- `run_lines`: table and copy keep their lengths. The measure is what is left of the text. Assumes nothing.
 use Prim.Native.Nat.{_-_}
 use mathlib.Core.Path.{_≡_}
 use lib.ListN.{length}
@@ -7,10 +7,10 @@ use Rattle.run_calls.proofs.line.run_lines.Statement.{statement}
 use Rattle.run_calls.proofs.line.run_lines.Tie as tie
 
 abbrev Inv-loop : tie.InvT-loop
-Inv-loop text words₀ kept₀ image₀ l₀ i₀ words kept image l i = (length words ≡ length words₀) × (length kept ≡ length kept₀) × (length image ≡ length image₀)
+Inv-loop text words₀ kept₀ n₀ i₀ words kept n i = (length words ≡ length words₀) × (length kept ≡ length kept₀)
 
 abbrev μ-loop : tie.MeasureT-loop
-μ-loop text words₀ kept₀ image₀ l₀ i₀ words kept image l i = length text - i
+μ-loop text words₀ kept₀ n₀ i₀ words kept n i = length text - i
 
 loop-holds : tie.Need-loop-holds Inv-loop μ-loop
 loop-holds c = search needs
@@ -45,9 +45,6 @@ same-length c = search needs
 same-length-2 : tie.Need-same-length-2 Inv-loop μ-loop
 same-length-2 c = search needs
 
-same-length-3 : tie.Need-same-length-3 Inv-loop μ-loop
-same-length-3 c = search needs
-
 returns : tie.Need-returns Inv-loop μ-loop
 returns c = search needs
 
@@ -68,5 +65,4 @@ run-lines-spec =
     loop-again
     same-length
     same-length-2
-    same-length-3
     returns)

@@ -7,10 +7,10 @@ use Rattle.run_calls.proofs.put.put_words.Statement.{statement}
 use Rattle.run_calls.proofs.put.put_words.Tie as tie
 
 abbrev Inv-loop : tie.InvT-loop
-Inv-loop t₀ given i₀ t i = (i ≤ length t₀) × (length t ≡ length t₀)
+Inv-loop t₀ given i₀ w₀ t i w = (i ≤ length t₀) × (length t ≡ length t₀)
 
 abbrev μ-loop : tie.MeasureT-loop
-μ-loop t₀ given i₀ t i = length t₀ - i
+μ-loop t₀ given i₀ w₀ t i w = length t₀ - i
 
 loop-holds : tie.Need-loop-holds Inv-loop μ-loop
 loop-holds c = search needs

@@ -6,10 +6,10 @@ use Rattle.run_calls.proofs.report.print_bytes.Statement.{statement}
 use Rattle.run_calls.proofs.report.print_bytes.Tie as tie
 
 abbrev Inv-loop : tie.InvT-loop
-Inv-loop bytes i₀ t3 i = i ≤ length bytes
+Inv-loop bytes i₀ i = i ≤ length bytes
 
 abbrev μ-loop : tie.MeasureT-loop
-μ-loop bytes i₀ t3 i = length bytes - i
+μ-loop bytes i₀ i = length bytes - i
 
 loop-holds : tie.Need-loop-holds Inv-loop μ-loop
 loop-holds c = search needs
@@ -29,12 +29,6 @@ loop-less c = search needs
 loop-again : tie.Need-loop-again Inv-loop μ-loop
 loop-again c = search needs
 
-slice-aggregate-print-text : tie.Need-slice-aggregate-print-text Inv-loop μ-loop
-slice-aggregate-print-text c = search needs
-
-print-text-requires : tie.Need-print-text-requires Inv-loop μ-loop
-print-text-requires c κs = search needs
-
 returns : tie.Need-returns Inv-loop μ-loop
 returns c = search needs
 
@@ -50,6 +44,4 @@ print-bytes-spec =
     add-i
     loop-less
     loop-again
-    slice-aggregate-print-text
-    print-text-requires
     returns)

@@ -6,16 +6,10 @@ use Rattle.run_calls.proofs.report.print_words.Statement.{statement}
 use Rattle.run_calls.proofs.report.print_words.Tie as tie
 
 abbrev Inv-loop : tie.InvT-loop
-Inv-loop t n i₀ t5 i = (i ≤ n) × (n ≤ length t)
+Inv-loop t n i₀ i = (i ≤ n) × (n ≤ length t)
 
 abbrev μ-loop : tie.MeasureT-loop
-μ-loop t n i₀ t5 i = n - i
-
-slice-aggregate-print-text : tie.Need-slice-aggregate-print-text Inv-loop μ-loop
-slice-aggregate-print-text c = search needs
-
-print-text-requires : tie.Need-print-text-requires Inv-loop μ-loop
-print-text-requires c κs = search needs
+μ-loop t n i₀ i = n - i
 
 count-words-requires : tie.Need-count-words-requires Inv-loop μ-loop
 count-words-requires c κs = search needs
@@ -41,12 +35,6 @@ loop-less c = search needs
 loop-again : tie.Need-loop-again Inv-loop μ-loop
 loop-again c = search needs
 
-slice-aggregate-print-text-2 : tie.Need-slice-aggregate-print-text-2 Inv-loop μ-loop
-slice-aggregate-print-text-2 c = search needs
-
-print-text-requires-2 : tie.Need-print-text-requires-2 Inv-loop μ-loop
-print-text-requires-2 c κs = search needs
-
 returns : tie.Need-returns Inv-loop μ-loop
 returns c = search needs
 
@@ -56,8 +44,6 @@ print-words-spec =
     (tie.spec
     Inv-loop
     μ-loop
-    slice-aggregate-print-text
-    print-text-requires
     count-words-requires
     loop-holds
     mul-print-word
@@ -66,6 +52,4 @@ print-words-spec =
     add-i
     loop-less
     loop-again
-    slice-aggregate-print-text-2
-    print-text-requires-2
     returns)

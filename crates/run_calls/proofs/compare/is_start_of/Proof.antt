@@ -1,16 +1,15 @@
--- `has_words_of`: the place is within both. The measure is the places that are left. Assumes nothing.
+-- `is_start_of`: the place is within both. The measure is the places that are left. Assumes nothing.
 use Prim.Native.Nat.{_-_, _≤_}
-use mathlib.Core.Path.{_≡_}
 use lib.ListN.{length}
 use borrow.Author.Needs.{needs}
-use Rattle.run_calls.proofs.compare.has_words_of.Statement.{statement}
-use Rattle.run_calls.proofs.compare.has_words_of.Tie as tie
+use Rattle.run_calls.proofs.compare.is_start_of.Statement.{statement}
+use Rattle.run_calls.proofs.compare.is_start_of.Tie as tie
 
 abbrev Inv-loop : tie.InvT-loop
-Inv-loop a b i₀ i = (i ≤ length a) × (length a ≡ length b)
+Inv-loop t other i₀ i = (i ≤ length t) × (length t ≤ length other)
 
 abbrev μ-loop : tie.MeasureT-loop
-μ-loop a b i₀ i = length a - i
+μ-loop t other i₀ i = length t - i
 
 returns : tie.Need-returns Inv-loop μ-loop
 returns c = search needs
@@ -45,8 +44,8 @@ loop-again c = search needs
 returns-3 : tie.Need-returns-3 Inv-loop μ-loop
 returns-3 c = search needs
 
-pub has-words-of-spec : {M : Type 1} → statement M
-has-words-of-spec =
+pub is-start-of-spec : {M : Type 1} → statement M
+is-start-of-spec =
     tie.close
     (tie.spec
     Inv-loop

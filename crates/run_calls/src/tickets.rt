@@ -38,7 +38,7 @@ fn apply_five(table: &mut [Word], tickets: [Ticket; TICKETS], answers: &mut [u8]
 // Runs the five tickets of 25 bytes by `apply_records`.
 pub fn print_records(t: &mut [Word], bytes: &[u8], answers: &mut [u8]) {
     if bytes.len() != TICKETS * RECORD {
-        print_text(b"?\n");
+        print_text(b" ?");
         return;
     }
     let tickets = [
@@ -49,6 +49,5 @@ pub fn print_records(t: &mut [Word], bytes: &[u8], answers: &mut [u8]) {
         ticket_at(bytes, 20),
     ];
     let listed = apply_five(t, tickets, answers);
-    print_text(b"records");
     print_listed(listed, answers);
 }

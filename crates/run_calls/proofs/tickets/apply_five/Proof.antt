@@ -54,10 +54,10 @@ use Rattle.list.proofs.apply_records as list
 use Rattle.list.proofs.apply_records.Symbol as list-def
 use Rattle.list.proofs.apply_records.Symbol.{name as #apply-records}
 use Rattle.list.proofs.apply_records.Met as list-thm
-use Rattle.run_calls.proofs.records.apply_five.Key.{name as #apply-five}
-use Rattle.run_calls.proofs.records.apply_five as five
-use Rattle.run_calls.proofs.records.apply_five.Statement as stated
-use Rattle.run_calls.proofs.records.apply_five.Code as code
+use Rattle.run_calls.proofs.tickets.apply_five.Key.{name as #apply-five}
+use Rattle.run_calls.proofs.tickets.apply_five as five
+use Rattle.run_calls.proofs.tickets.apply_five.Statement as stated
+use Rattle.run_calls.proofs.tickets.apply_five.Code as code
 
 abbrev R : RattleType
 R = T.the-row
