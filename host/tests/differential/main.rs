@@ -1,5 +1,5 @@
-//! Program one, program two and the host call beside the independent implementation. VIMELOSA_TEST_ROUNDS runs each test
-//! that many times as long, VIMELOSA_TEST_SEED draws other tickets.
+//! Program one, program two, `run_calls` and the host call beside the independent implementation. VIMELOSA_TEST_ROUNDS
+//! runs each test that many times as long, VIMELOSA_TEST_SEED draws other tickets.
 
 #[path = "../generator/mod.rs"]
 mod generator;
@@ -11,5 +11,6 @@ mod independent;
 mod process;
 mod program_one;
 mod program_two;
+mod run_calls;
 #[path = "../vector_files/mod.rs"]
 mod vector_files;

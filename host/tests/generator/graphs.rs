@@ -121,6 +121,12 @@ pub fn overlong() -> Graph {
     Graph::of(ids(24).flat_map(|a| ids(30).flat_map(move |b| ids(30).map(move |c| value(a, b, c)))))
 }
 
+/// More facts than a table has words, in an image of some 6,300 bytes.
+pub fn overfull() -> Graph {
+    let facts = overlong().facts().take(2_070).collect::<Vec<Fact>>();
+    Graph::of(facts)
+}
+
 /// The image of a graph that has one.
 pub fn image(graph: &Graph) -> Vec<u8> {
     image_of(graph).expect("the graph has an image")

@@ -7,6 +7,7 @@ pub mod calls;
 pub mod damage;
 pub mod graphs;
 pub mod long_lists;
+pub mod scripts;
 pub mod tickets;
 
 use std::env;

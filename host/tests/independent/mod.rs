@@ -18,5 +18,6 @@ pub mod list;
 pub mod plain;
 pub mod programs;
 pub mod rules;
+pub mod script;
 pub mod table;
 pub mod ticket;

@@ -1,4 +1,4 @@
-//! The two programs, run as processes: how they are fed, and what they print.
+//! The programs, run as processes: how they are fed, and what they print.
 
 // Each test uses its own share of this module.
 #![allow(dead_code)]
@@ -42,6 +42,11 @@ impl Program {
     /// Program two: VIMELOSA_PRINT_FACTS, or target/bin/print_facts of the repository.
     pub fn two() -> Program {
         Program::find("VIMELOSA_PRINT_FACTS", "../target/bin/print_facts")
+    }
+
+    /// The calls by a script: VIMELOSA_RUN_CALLS, or target/bin/run_calls of the repository.
+    pub fn calls() -> Program {
+        Program::find("VIMELOSA_RUN_CALLS", "../target/bin/run_calls")
     }
 
     fn find(variable: &str, place: &str) -> Program {

@@ -1,0 +1,2 @@
+-- Elements: `apply_five`, a walk by hand.
+mod Elements

@@ -1,0 +1,92 @@
+// The calls, and what is printed of each.
+use crate::command::UNTOUCHED;
+use crate::compare::bytes_in;
+use crate::put::word_at;
+use crate::report::print_answer;
+use crate::report::print_bytes;
+use crate::report::print_number;
+use crate::report::print_rule;
+use crate::report::print_test;
+use consistency::INCONSISTENT;
+use consistency::Visited;
+use consistency::check;
+use consistency::first_broken;
+use image::body;
+use image::write;
+use list::Listed;
+use list::apply_each;
+use list::apply_list;
+use table::Word;
+use table::lookup;
+use ticket::apply;
+
+// The bytes that can be lent for an image.
+const OUTPUT: usize = 8200;
+
+// After a 3 comes the first rule that is broken.
+pub fn print_check(t: &[Word]) {
+    let answer = check(t);
+    print_answer(answer);
+    if answer == INCONSISTENT {
+        let visited = first_broken(t);
+        if let Visited::Broken(rule) = visited {
+            print_rule(rule);
+        }
+    }
+}
+
+pub fn print_lookup(t: &[Word], given: &[u8]) {
+    let looked = lookup(t, word_at(given, 0, 0));
+    print_answer(looked.answer);
+    print_test(looked.present);
+}
+
+pub fn print_applied(t: &mut [Word], given: &[u8]) {
+    let applied = apply(t, given);
+    print_answer(applied.answer);
+    print_number(applied.added as usize);
+    print_number(applied.removed as usize);
+}
+
+// What a list answered, and the answer bytes.
+pub fn print_listed(listed: Listed, answers: &[u8]) {
+    print_answer(listed.answer);
+    print_number(listed.accepted);
+    print_number(listed.refused);
+    print_bytes(answers);
+}
+
+pub fn print_list(t: &mut [Word], given: &[u8], answers: &mut [u8]) {
+    let listed = apply_list(t, given, answers);
+    print_listed(listed, answers);
+}
+
+pub fn print_each(t: &mut [Word], given: &[u8], answers: &mut [u8]) {
+    let listed = apply_each(t, given, answers);
+    print_listed(listed, answers);
+}
+
+fn print_written(t: &[Word], output: &mut [u8]) {
+    let written = write(t, output);
+    print_answer(written.answer);
+    print_number(written.length as usize);
+    print_bytes(output);
+}
+
+// Writes into so many bytes.
+pub fn print_write(t: &[Word], room: usize) {
+    let mut output = [UNTOUCHED; OUTPUT];
+    let n = bytes_in(&output, room);
+    print_written(t, &mut output[..n]);
+}
+
+// The body of a kind; a number above 255 is none.
+pub fn print_body(number: usize, image: &[u8]) {
+    let mut kind = 0;
+    if number <= 255 {
+        kind = number as u8;
+    }
+    let part = body(image, kind);
+    print_number(part.len());
+    print_bytes(part);
+}

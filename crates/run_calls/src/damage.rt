@@ -1,0 +1,111 @@
+// An image with each byte set to each value. It is refused, or it is the image of the table read.
+ghost use Prim.Native.Nat.{_<_};
+use crate::compare::bytes_in;
+use crate::compare::is_same;
+use crate::compare::is_start_of;
+use crate::put::copy_words;
+use crate::report::print_number;
+use image::LONGEST;
+use image::read;
+use image::write;
+use table::Word;
+
+// The values of a byte.
+const VALUES: usize = 256;
+
+// What comes of an image: the answer to reading it, up to 12, or one of these.
+const OTHERWISE: usize = 13;
+
+const ELSE: usize = 14;
+
+const OUTCOMES: usize = 15;
+
+// Whether an image is the one that writing gives for a table.
+fn is_image_of(image: &[u8], t: &[Word]) -> bool {
+    let mut output = [0u8; LONGEST];
+    let written = write(t, &mut output);
+    let n = bytes_in(&output, written.length as usize);
+    is_same(&output[..n], image)
+}
+
+// What comes of an image whose reading answers this; whether it is its table's, and whether the table is as
+// it was.
+fn outcome_of(answer: u8, own: bool, kept: bool) -> usize
+    ensures { λ r. ⌜ r < 15 ⌝ }
+{
+    if answer == 0 {
+        if own {
+            return 0;
+        }
+        return OTHERWISE;
+    }
+    if kept {
+        if answer < 13 {
+            return answer as usize;
+        }
+    }
+    ELSE
+}
+
+// What comes of an image. The table is the copy afterwards.
+fn judge(image: &[u8], t: &mut [Word], kept: &[Word]) -> usize
+    ensures { λ r. ⌜ r < 15 ⌝ }
+{
+    let answer = read(t, image);
+    let own = is_image_of(image, t);
+    let same = is_start_of(t, kept);
+    copy_words(kept, t);
+    outcome_of(answer, own, same)
+}
+
+// One more, as far as the number goes.
+fn one_more(n: usize) -> usize {
+    if n == usize::MAX {
+        return n;
+    }
+    n + 1
+}
+
+// Counts what comes of the image with each value at a place. The image is as it was afterwards.
+fn count_place(
+    image: &mut [u8],
+    place: usize,
+    t: &mut [Word],
+    kept: &[Word],
+    counts: &mut [usize; OUTCOMES],
+) {
+    if image.len() <= place {
+        return;
+    }
+    let old = image[place];
+    let mut x = 0;
+    while x < VALUES {
+        image[place] = x as u8;
+        let k = judge(image, t, kept);
+        counts[k] = one_more(counts[k]);
+        x += 1;
+    }
+    image[place] = old;
+}
+
+// The same at each place.
+fn count_places(image: &mut [u8], t: &mut [Word], kept: &[Word], counts: &mut [usize; OUTCOMES]) {
+    let n = image.len();
+    let mut place = 0;
+    while place < n {
+        count_place(image, place, t, kept, counts);
+        place += 1;
+    }
+}
+
+// Counts what comes of the image with each value at each place, and prints the counts. The table is the copy
+// afterwards.
+pub fn print_damage(image: &mut [u8], t: &mut [Word], kept: &[Word]) {
+    let mut counts = [0usize; OUTCOMES];
+    count_places(image, t, kept, &mut counts);
+    let mut k = 0;
+    while k < OUTCOMES {
+        print_number(counts[k]);
+        k += 1;
+    }
+}

@@ -1,0 +1,192 @@
+//! What the program `run_calls` prints for a script, by the calls of this implementation. The commands are those that
+//! the head of crates/run_calls/src/main.rt describes.
+
+use super::image::{body, read, write};
+use super::list::apply_list;
+use super::rules::each_demand;
+use super::table::{check, facts_of, fresh, lookup};
+use super::ticket::apply;
+
+/// The most words, output bytes and answer bytes that a script can lend.
+const WORDS: usize = 2049;
+const OUTPUT: usize = 8200;
+const ANSWERS: usize = 2048;
+
+/// What the lines of a script print.
+pub fn run_script(script: &str) -> String {
+    let mut state = State { table: Vec::new(), copy: vec![0; WORDS] };
+    let lines = script.lines().filter(|line| !line.is_empty() && !line.starts_with('#'));
+    lines.map(|line| state.run_line(line)).collect()
+}
+
+/// What belongs to a command.
+struct Given {
+    bytes: Vec<u8>,
+}
+
+impl Given {
+    /// The bytes of hexadecimal digits, with blanks between.
+    fn of(text: &str) -> Given {
+        let digits: Vec<u32> = text.chars().filter(|x| *x != ' ').map(|x| x.to_digit(16).unwrap_or(0)).collect();
+        Given { bytes: digits.chunks_exact(2).map(|pair| (16 * pair[0] + pair[1]) as u8).collect() }
+    }
+
+    /// The number of the first two bytes, and the bytes after them.
+    fn number_and_rest(&self) -> (usize, &[u8]) {
+        match &self.bytes[..] {
+            [high, low, rest @ ..] => (256 * usize::from(*high) + usize::from(*low), rest),
+            _ => (0, &[]),
+        }
+    }
+}
+
+/// The words of bytes, highest byte first.
+fn words_of(bytes: &[u8]) -> Vec<u32> {
+    let word = |four: &[u8]| four.iter().fold(0, |word, byte| word << 8 | u32::from(*byte));
+    bytes.chunks_exact(4).map(word).collect()
+}
+
+/// Bytes in hexadecimal, a blank before each.
+fn shown(bytes: &[u8]) -> String {
+    bytes.iter().map(|byte| format!(" {byte:02x}")).collect()
+}
+
+/// The table, and the copy of its words.
+struct State {
+    table: Vec<u32>,
+    copy: Vec<u32>,
+}
+
+impl State {
+    fn run_line(&mut self, line: &str) -> String {
+        let (name, rest) = line.split_once(' ').unwrap_or((line, ""));
+        match self.run(name, &Given::of(rest)) {
+            Some(printed) => format!("{name}{printed}\n"),
+            None => "?\n".to_string(),
+        }
+    }
+
+    /// What a command prints after its name; none if it is no command.
+    fn run(&mut self, name: &str, given: &Given) -> Option<String> {
+        Some(match name {
+            "fresh" => format!(" {}", fresh(&mut self.table)),
+            "check" => self.check(),
+            "lookup" => self.lookup(&given.bytes),
+            "apply" => self.apply(&given.bytes),
+            "list" | "each" => self.list(given),
+            "records" if given.bytes.len() != 27 => " ?".to_string(),
+            "records" => self.list(given),
+            "write" => self.write(given),
+            "read" => format!(" {}", read(&given.bytes, &mut self.table)),
+            "body" => self.body(given),
+            "damage" => self.damage(&given.bytes),
+            "facts" => format!(" {}", self.words().len()),
+            "words" => self.words().iter().map(|word| format!(" {word:08x}")).collect(),
+            "same" => format!(" {}", u8::from(self.copy.starts_with(&self.table))),
+            _ => return self.change(name, given),
+        })
+    }
+
+    /// The commands that print only their name.
+    fn change(&mut self, name: &str, given: &Given) -> Option<String> {
+        match name {
+            "table" => {
+                let (number, rest) = given.number_and_rest();
+                self.table = words_of(rest);
+                let last = self.table.last().copied().unwrap_or(0);
+                self.table.resize(number.min(WORDS), last);
+            }
+            "keep" => self.copy[..self.table.len()].copy_from_slice(&self.table),
+            "back" => self.restore(),
+            _ => return None,
+        }
+        Some(String::new())
+    }
+
+    fn restore(&mut self) {
+        let length = self.table.len();
+        self.table.copy_from_slice(&self.copy[..length]);
+    }
+
+    /// The words up to the last that is not 0.
+    fn words(&self) -> &[u32] {
+        let last = self.table.iter().rposition(|word| *word != 0);
+        &self.table[..last.map_or(0, |place| place + 1)]
+    }
+
+    /// The answer, and after a 3 the first rule that is broken; H1 to H4 come last.
+    fn check(&self) -> String {
+        let answer = check(&self.table);
+        if answer != 3 {
+            return format!(" {answer}");
+        }
+        let graph = facts_of(&self.table).expect("the table is laid out");
+        let mut first = u8::MAX;
+        each_demand(&graph, &mut |demand| {
+            if !demand.is_met(&graph) {
+                first = first.min(demand.rule);
+            }
+        });
+        match first {
+            101.. => format!(" 3 H{}", first - 100),
+            _ => format!(" 3 {first}"),
+        }
+    }
+
+    fn lookup(&self, bytes: &[u8]) -> String {
+        let word = words_of(bytes).first().copied().unwrap_or(0);
+        let (answer, present) = lookup(&self.table, word);
+        format!(" {answer} {}", u8::from(present))
+    }
+
+    fn apply(&mut self, ticket: &[u8]) -> String {
+        let answer = apply(&mut self.table, ticket);
+        format!(" {} {} {}", answer.number, answer.added, answer.removed)
+    }
+
+    fn list(&mut self, given: &Given) -> String {
+        let (room, list) = given.number_and_rest();
+        let mut answers = vec![0xff; room.min(ANSWERS)];
+        let answer = apply_list(&mut self.table, list, &mut answers);
+        format!(" {} {} {}{}", answer.number, answer.accepted, answer.refused, shown(&answers))
+    }
+
+    fn write(&self, given: &Given) -> String {
+        let mut output = vec![0xff; given.number_and_rest().0.min(OUTPUT)];
+        let (answer, length) = write(&self.table, &mut output);
+        format!(" {answer} {length}{}", shown(&output))
+    }
+
+    fn body(&self, given: &Given) -> String {
+        let (number, image) = given.number_and_rest();
+        let part = body(image, u8::try_from(number).unwrap_or(0));
+        format!(" {}{}", part.len(), shown(part))
+    }
+
+    /// How often reading the image with each byte set to each value gives each answer; a 0 for an image that is not the
+    /// table's counts as 13, and a refusal that does not leave the copy's words as 14.
+    fn damage(&mut self, image: &[u8]) -> String {
+        let mut met = [0; 15];
+        for place in 0..image.len() {
+            for byte in 0..=255 {
+                let mut changed = image.to_vec();
+                changed[place] = byte;
+                let outcome = match read(&changed, &mut self.table) {
+                    0 if is_image_of(&changed, &self.table) => 0,
+                    0 => 13,
+                    answer if self.copy.starts_with(&self.table) => answer,
+                    _ => 14,
+                };
+                met[usize::from(outcome)] += 1;
+                self.restore();
+            }
+        }
+        met.map(|count: usize| format!(" {count}")).concat()
+    }
+}
+
+/// Writing gives this image for the table.
+fn is_image_of(image: &[u8], table: &[u32]) -> bool {
+    let mut output = vec![0; image.len()];
+    write(table, &mut output) == (0, image.len()) && output == image
+}
