@@ -1,4 +1,4 @@
--- The definitions computed: Cases, WorkedCases. Lists: Lists, Sorted, Filters, Counts, Cut, Perms.
+-- The definitions computed: Cases. Lists: Lists, Sorted, Filters, Counts, Cut, Perms.
 -- The definitions' laws: Tests; Facts, Digits, Allowed, Tables, LaidOut (facts, words, tables); Parts, Clashing, Decision (consistency);
 -- TicketTests, Refusals, Steps (tickets).
 -- Insertion: Needs, Closure, Seeds, InsertionSmallest, AskedSeeds, InsertionSteps, Within.
@@ -7,7 +7,6 @@
 -- LookupClash.
 -- Theorems: AfterEach, Rearrangement (a list of tickets), Theorems.
 pub mod Cases
-pub mod WorkedCases
 pub mod Tests
 pub mod Lists
 pub mod Sorted

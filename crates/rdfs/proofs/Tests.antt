@@ -6,7 +6,6 @@ use mathlib.Core.Bool.{Bool, true, false, not, _&&_, _||_, cond}
 use mathlib.Core.Logic.{_⊎_, inl, inr, ⊎-elim}
 use lib.Dec.{T, eqb, T-not, not-T, eqb→eq, eqb-refl}
 use Rattle.rdfs.proofs.Cases
-use Rattle.rdfs.proofs.WorkedCases
 
 pub and-both : (a b : Bool) → T (a && b) → T a × T b
 and-both true true h = (tt, tt)

@@ -2,7 +2,7 @@
 -- ids, for is_fact. FactParts: a word and its fact, for has_fact and the crates above. Rising: for count_rising and is_zero_from. Halving: for
 -- count_facts and count_below. Filled: for count_facts and lookup. Counted: a table with the number of its facts, for has_fact and the crates
 -- above. Below: for count_below, count_up_to, find and has_word. Moved: for put_at and clear_from. LookedUp: for has_fact. Copied: for copy_words.
--- Sizes: for is_bad_size and fresh. Calls: for layout_refusal, fresh and lookup.
+-- Sizes: for is_bad_size and fresh. Calls: for layout_refusal, fresh and lookup. Promising: for the ties in the crates above.
 pub mod Answers
 pub mod InTurn
 pub mod Parts
@@ -17,3 +17,4 @@ pub mod LookedUp
 pub mod Copied
 pub mod Sizes
 pub mod Calls
+pub mod Promising

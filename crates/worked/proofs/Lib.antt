@@ -1,0 +1,2 @@
+-- WorkedCases: the examples, one list.
+pub mod WorkedCases
