@@ -10,13 +10,14 @@ use lib.Seq.{length-take-le}
 use Rattle.rdfs.specs.Numbers.{product, recordLength}
 use Rattle.rdfs.specs.Lists.{concatMap}
 use Rattle.rdfs.specs.Words.{filled}
-use Rattle.rdfs.specs.Register.{step, run, cut, Table}
+use Rattle.rdfs.specs.Register.{run, cut, Table}
 use Rattle.rdfs.proofs.Cut.{cut-record}
 use Rattle.rdfs.proofs.AfterEach.{run-append, run-table}
 use Rattle.rdfs.proofs.Theorems.{product-sound}
 use Rattle.text.specs.Text.{Number}
 use Rattle.apply_tickets.specs.Text.{Lines}
 use Rattle.apply_tickets.specs.Turns.{start, Turn, Runs, FullTurns, readBy, writtenBy, Ran, Finishes}
+use Rattle.apply_tickets.proofs.Printing.{lines-append}
 use Rattle.apply_tickets.proofs.Chunk.{fresh-table}
 
 abbrev tickets : List ℕ → List (List ℕ)
@@ -39,19 +40,6 @@ cut-append (suc k) a b e =
     let right : tickets a ≡ first ∷ tickets rest =
     ap tickets split ∙ cut-record recordLength (omega arith) first rest long in
     left ∙ (ap (λ l. first ∷ l) more ∙ sym (ap (λ l. l ++ tickets b) right))
-
--- The lines of tickets and then of others.
-lines-append : (l m : List (List ℕ)) (w text rest : List ℕ) → Lines w l text → Lines (run product w l .table) m rest
-    → Lines w (l ++ m) (text ++ rest)
-unfolding run
-lines-append [] m w text rest q h = subst (Lines w m) (sym (ap (λ s. s ++ rest) q)) h
-lines-append (t ∷ l) m w text rest q h = (
-  q .0,
-  q .1 ++ rest,
-  q .2,
-  lines-append l m (step product w t .table) (q .1) rest (q .3) h,
-  ap (λ s. s ++ rest) (q .4) ∙ append-assoc (q .0) (q .1) rest,
-)
 
 -- A turn with whole tickets, and one after it, are one turn with the bytes and the texts of both.
 runs-append : (k : ℕ) (first second : Turn) {w u v : List ℕ} → length (first .read) ≡ k * recordLength → Runs w u first

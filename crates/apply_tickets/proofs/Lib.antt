@@ -1,4 +1,5 @@
--- Put: for put_line. Printing: for put_lines. Chunk: for run_tickets and run_program. Joined, Going: for run_input and run_program.
+-- Put: for put_line. Printing: for put_lines. Chunk: for run_tickets and run_program. Joined: for run_program. Going: for
+-- run_chunk and run_input.
 pub mod Put
 pub mod Printing
 pub mod Chunk

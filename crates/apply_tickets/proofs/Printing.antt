@@ -18,19 +18,25 @@ use Rattle.apply_tickets.specs.Text.{Line, Lines, Printed}
 line-same : {x y z u v w : ℕ} (text : List ℕ) → x ≡ u → y ≡ v → z ≡ w → Line x y z text → Line u v w text
 line-same {x} {y} {z} {u} {v} {w} text a b c l = subst (λ n. Line n v w text) a (subst (λ n. Line x n w text) b (subst (λ n. Line x y n text) c l))
 
+-- The lines of tickets and then of others.
+pub lines-append : (l m : List (List ℕ)) (w text rest : List ℕ) → Lines w l text → Lines (run product w l .table) m rest
+    → Lines w (l ++ m) (text ++ rest)
+unfolding run
+lines-append [] m w text rest q h = subst (Lines w m) (sym (ap (λ s. s ++ rest) q)) h
+lines-append (t ∷ l) m w text rest q h = (
+  q .0,
+  q .1 ++ rest,
+  q .2,
+  lines-append l m (step product w t .table) (q .1) rest (q .3) h,
+  ap (λ s. s ++ rest) (q .4) ∙ append-assoc (q .0) (q .1) rest,
+)
+
 -- The line of a ticket that is run after others.
 lines-more : (l : List (List ℕ)) (w t text line : List ℕ) → Lines w l text
-    → Line (step product (run product w l .table) t .number) (step product (run product w l .table) t .added) (step product (run product w l .table) t .removed) line
+    → Line (step product (run product w l .table) t .number) (step product (run product w l .table) t .added)
+    (step product (run product w l .table) t .removed) line
     → Lines w (l ++ (t ∷ [])) (text ++ line)
-unfolding run
-lines-more [] w t text line q h = (line, [], h, refl, ap (λ s. s ++ line) q ∙ sym (append-nil line))
-lines-more (u ∷ l) w t text line q h = (
-  q .0,
-  q .1 ++ line,
-  q .2,
-  lines-more l (step product w u .table) t (q .1) line (q .3) h,
-  ap (λ s. s ++ line) (q .4) ∙ append-assoc (q .0) (q .1) line,
-)
+lines-more l w t text line q h = lines-append l (t ∷ []) w text line q (line, [], h, refl, sym (append-nil line))
 
 -- Of the tickets `all` from the words `start`, some are run and `left` are not; their lines stand before place `at`, and the words are w.
 pub record Printing (start : List ℕ) (all left : List (List ℕ)) (at : ℕ) (w out : List ℕ) : Type 0 where

@@ -1,3 +1,3 @@
--- Gathering: for put_lines. Read: for put_facts.
+-- Gathering: for put_lines. Read: for put_facts and put_read.
 pub mod Gathering
 pub mod Read

@@ -23,7 +23,6 @@ use Rattle.image.specs.Writing.{Writable}
 use Rattle.contents.proofs.RoundTrip.{words-some}
 use Rattle.image.proofs.Measuring.{image-small}
 use Rattle.image.proofs.Theorems.{read-writes}
-use Rattle.streams.specs.Input.{Begins}
 use Rattle.print_facts.specs.Text.{Printed, PrintedFor, Lent, wordsRead}
 
 abbrev room : List ℕ

@@ -1,4 +1,4 @@
-// The programs' standard streams: input read into a lent buffer, text written, and what is said on standard error
+// The standard streams of programs one and two: input read into a lent buffer, text written, and what is said on standard error
 // where one of them fails.
 //
 // No function has a `requires`. The crate assumes the kit's contracts of `libc::read` and `libc::write`, which say

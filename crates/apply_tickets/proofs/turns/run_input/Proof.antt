@@ -1,7 +1,5 @@
 -- `run_input`: the invariant is that full turns have led to the words there are, and that what is lent stays; the
 -- measure is the turns that are left. Assumes nothing.
-use mathlib.Core.Path.{_∙_}
-use denote.Ref.{now}
 use borrow.Author.Needs.{needs}
 use Rattle.apply_tickets.proofs.Going.{Going, going-start, going-more, going-last}
 use Rattle.apply_tickets.proofs.turns.run_input.Statement.{statement}
