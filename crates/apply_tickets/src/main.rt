@@ -2,17 +2,14 @@
 // answer, added and removed on a line; 1 to 4 bytes left over are a ticket of that length. Last it prints the count
 // of facts. Input may be of any length. If a read or a write fails, a line on standard error says so and nothing
 // more is printed, so that the count is missing.
-mod lines;
-mod turns;
-
 ghost use lib.ListN.{length};
-ghost use Rattle.apply_tickets.specs.Turns.{Sized, Finishes};
-use lines::put_count;
+ghost use Rattle.report.specs.Turns.{Sized, Finishes};
+use report::put_count;
+use report::run_input;
 use streams::write_output;
 use table::MOST;
 use table::Word;
 use table::fresh;
-use turns::run_input;
 
 // How many bytes are read at once: whole tickets, whose lines fit a large buffer.
 const CHUNK: usize = 16000;

@@ -3,8 +3,8 @@ use mathlib.Core.Path.{sym}
 use native.Mathlib.Omega.{arith}
 use denote.Ref.{now}
 use lib.Seq.{length-take-le}
-use Rattle.apply_tickets.proofs.Chunk.{made-fresh, lent-fresh}
-use Rattle.apply_tickets.proofs.Joined.{ran-table, ran-prints}
+use Rattle.report.proofs.Chunk.{made-fresh, lent-fresh}
+use Rattle.report.proofs.Joined.{ran-table, ran-prints}
 use borrow.Author.Needs.{needs}
 use Rattle.apply_tickets.proofs.run_program.Statement.{statement}
 use Rattle.apply_tickets.proofs.run_program.Tie as tie

@@ -13,7 +13,7 @@ use Rattle.ticket.specs.declared.Applied.{Applied}
 use Rattle.list.proofs.Runs.{more-words, run-words}
 use Rattle.list.proofs.CutOff.{cut-from, cut-end}
 use Rattle.text.specs.Text.{Puts}
-use Rattle.apply_tickets.specs.Text.{Line, Lines, Printed}
+use Rattle.report.specs.Text.{Line, Lines, Printed}
 
 line-same : {x y z u v w : ℕ} (text : List ℕ) → x ≡ u → y ≡ v → z ≡ w → Line x y z text → Line u v w text
 line-same {x} {y} {z} {u} {v} {w} text a b c l = subst (λ n. Line n v w text) a (subst (λ n. Line x n w text) b (subst (λ n. Line x y n text) c l))

@@ -1,8 +1,8 @@
 -- `put_line`: three numbers, one after another. Assumes nothing.
 use borrow.Author.Needs.{needs}
-use Rattle.apply_tickets.proofs.Put.{line-put}
-use Rattle.apply_tickets.proofs.lines.put_line.Statement.{statement}
-use Rattle.apply_tickets.proofs.lines.put_line.Tie as tie
+use Rattle.report.proofs.Put.{line-put}
+use Rattle.report.proofs.lines.put_line.Statement.{statement}
+use Rattle.report.proofs.lines.put_line.Tie as tie
 
 cast-put-short : tie.Need-cast-put-short
 cast-put-short c = search needs

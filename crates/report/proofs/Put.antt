@@ -5,7 +5,7 @@ use mathlib.Core.List.{List, _++_, append-assoc}
 use native.Mathlib.Omega.{arith}
 use lib.ListN.{take, length-append}
 use Rattle.text.specs.Text.{Number, Puts}
-use Rattle.apply_tickets.specs.Text.{Line}
+use Rattle.report.specs.Text.{Line}
 
 pub line-put : {a b c at one two r : ℕ} {before first second after : List ℕ} → Puts (Number a 32) at one before first → Puts (Number b 32) one two first second → Puts (Number c 10) two r second after
     → Puts (Line a b c) at r before after

@@ -9,9 +9,9 @@ use Rattle.rdfs.specs.Lists.{concatMap}
 use Rattle.rdfs.specs.Words.{filled, fresh}
 use Rattle.rdfs.specs.Register.{run, cut, Table}
 use Rattle.text.specs.Text.{Number}
-use Rattle.apply_tickets.specs.Text.{Lines}
-use Rattle.apply_tickets.specs.declared.turns.Turned.{Turned}
-use Rattle.apply_tickets.specs.declared.turns.Turned.the-variants.{More, Last, Failed}
+use Rattle.report.specs.Text.{Lines}
+use Rattle.report.specs.declared.turns.Turned.{Turned}
+use Rattle.report.specs.declared.turns.Turned.the-variants.{More, Last, Failed}
 
 -- The words at the start: a fresh table of the most words.
 abbrev pub start : List ℕ

@@ -1,9 +1,9 @@
 -- `run_input`: the invariant is that full turns have led to the words there are, and that what is lent stays; the
 -- measure is the turns that are left. Assumes nothing.
 use borrow.Author.Needs.{needs}
-use Rattle.apply_tickets.proofs.Going.{Going, going-start, going-more, going-last}
-use Rattle.apply_tickets.proofs.turns.run_input.Statement.{statement}
-use Rattle.apply_tickets.proofs.turns.run_input.Tie as tie
+use Rattle.report.proofs.Going.{Going, going-start, going-more, going-last}
+use Rattle.report.proofs.turns.run_input.Statement.{statement}
+use Rattle.report.proofs.turns.run_input.Tie as tie
 
 abbrev Inv-loop : tie.InvT-loop
 Inv-loop table₀ bytes₀ out₀ turns₀ table bytes out turns = Going table₀ bytes₀ out₀ table bytes out

@@ -1,7 +1,7 @@
 // The turns of program one: each reads a chunk of the input, runs its tickets and writes their lines.
 ghost use Prim.Native.Nat.{_≤_};
 ghost use lib.ListN.{length};
-ghost use Rattle.apply_tickets.specs.Turns.{Lent, Shows, Ran};
+ghost use Rattle.report.specs.Turns.{Lent, Shows, Ran};
 use crate::lines::put_lines;
 use streams::Filled;
 use streams::read_input;

@@ -6,9 +6,9 @@ use lib.ListN.{length}
 use borrow.Author.Needs.{needs}
 use Rattle.rdfs.specs.Numbers.{recordLength}
 use Rattle.rdfs.specs.Register.{cut}
-use Rattle.apply_tickets.proofs.Printing.{PrintingFrom, printing-start, printing-words, printing-table, printing-line, printing-on, printing-end}
-use Rattle.apply_tickets.proofs.lines.put_lines.Statement.{statement}
-use Rattle.apply_tickets.proofs.lines.put_lines.Tie as tie
+use Rattle.report.proofs.Printing.{PrintingFrom, printing-start, printing-words, printing-table, printing-line, printing-on, printing-end}
+use Rattle.report.proofs.lines.put_lines.Statement.{statement}
+use Rattle.report.proofs.lines.put_lines.Tie as tie
 
 abbrev Inv-loop : tie.InvT-loop
 Inv-loop table₀ bytes out₀ i₀ at₀ table out i at = (i ≤ length bytes) × (length out ≡ length out₀) × PrintingFrom table₀ bytes i at table out

@@ -10,10 +10,10 @@ use Rattle.rdfs.specs.Numbers.{product, recordLength}
 use Rattle.rdfs.specs.Register.{cut, Table}
 use Rattle.rdfs.proofs.AfterEach.{run-table}
 use Rattle.rdfs.proofs.Theorems.{product-sound}
-use Rattle.apply_tickets.specs.Turns.{Turn, Runs, FullTurns, Lent, Shows, Ran}
-use Rattle.apply_tickets.specs.declared.turns.Turned.{Turned}
-use Rattle.apply_tickets.specs.declared.turns.Turned.the-variants.{More, Last}
-use Rattle.apply_tickets.proofs.Joined.{fulls-more}
+use Rattle.report.specs.Turns.{Turn, Runs, FullTurns, Lent, Shows, Ran}
+use Rattle.report.specs.declared.turns.Turned.{Turned}
+use Rattle.report.specs.declared.turns.Turned.the-variants.{More, Last}
+use Rattle.report.proofs.Joined.{fulls-more}
 
 -- What is lent stays so while the table is consistent and the lengths stay.
 pub lent-kept : {w bytes out v chunk text : List ℕ} → Lent w bytes out → Table product v → length chunk ≡ length bytes

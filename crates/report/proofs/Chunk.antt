@@ -15,9 +15,9 @@ use Rattle.rdfs.specs.Register.{cut, Table}
 use Rattle.rdfs.proofs.Cut.{cut-length}
 use Rattle.rdfs.proofs.Decision.{check-sound}
 use Rattle.table.specs.Calls.{freshWords}
-use Rattle.apply_tickets.specs.Text.{Printed}
-use Rattle.apply_tickets.specs.Turns.{start, Runs, Lent, Shows, Sized}
-use Rattle.apply_tickets.specs.declared.turns.Turned.the-variants.{More, Last}
+use Rattle.report.specs.Text.{Printed}
+use Rattle.report.specs.Turns.{start, Runs, Lent, Shows, Sized}
+use Rattle.report.specs.declared.turns.Turned.the-variants.{More, Last}
 
 -- The lines of the first n bytes of a chunk fit the room that is lent with it.
 pub lines-fit : (bytes out : List ℕ) (n : ℕ) → n ≤ length bytes → 18 * (length bytes / recordLength + 1) ≤ length out

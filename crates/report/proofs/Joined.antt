@@ -15,10 +15,10 @@ use Rattle.rdfs.proofs.Cut.{cut-record}
 use Rattle.rdfs.proofs.AfterEach.{run-append, run-table}
 use Rattle.rdfs.proofs.Theorems.{product-sound}
 use Rattle.text.specs.Text.{Number}
-use Rattle.apply_tickets.specs.Text.{Lines}
-use Rattle.apply_tickets.specs.Turns.{start, Turn, Runs, FullTurns, readBy, writtenBy, Ran, Finishes}
-use Rattle.apply_tickets.proofs.Printing.{lines-append}
-use Rattle.apply_tickets.proofs.Chunk.{fresh-table}
+use Rattle.report.specs.Text.{Lines}
+use Rattle.report.specs.Turns.{start, Turn, Runs, FullTurns, readBy, writtenBy, Ran, Finishes}
+use Rattle.report.proofs.Printing.{lines-append}
+use Rattle.report.proofs.Chunk.{fresh-table}
 
 abbrev tickets : List ℕ → List (List ℕ)
 tickets bytes = cut recordLength bytes

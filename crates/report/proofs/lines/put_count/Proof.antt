@@ -8,8 +8,8 @@ use Rattle.rdfs.specs.Numbers.{product}
 use Rattle.table.proofs.Filled.{filled-within}
 use Rattle.text.specs.Text.{Number}
 use Rattle.text.proofs.Put.{puts-start}
-use Rattle.apply_tickets.proofs.lines.put_count.Statement.{statement}
-use Rattle.apply_tickets.proofs.lines.put_count.Tie as tie
+use Rattle.report.proofs.lines.put_count.Statement.{statement}
+use Rattle.report.proofs.lines.put_count.Tie as tie
 
 count-facts-requires : tie.Need-count-facts-requires
 count-facts-requires c κs = search needs

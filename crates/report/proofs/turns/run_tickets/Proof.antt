@@ -2,10 +2,10 @@
 use mathlib.Core.Path.{sym}
 use denote.Ref.{now}
 use lib.Seq.{length-take-le}
-use Rattle.apply_tickets.proofs.Chunk.{lines-fit, shows-last, shows-more}
+use Rattle.report.proofs.Chunk.{lines-fit, shows-last, shows-more}
 use borrow.Author.Needs.{needs}
-use Rattle.apply_tickets.proofs.turns.run_tickets.Statement.{statement}
-use Rattle.apply_tickets.proofs.turns.run_tickets.Tie as tie
+use Rattle.report.proofs.turns.run_tickets.Statement.{statement}
+use Rattle.report.proofs.turns.run_tickets.Tie as tie
 
 slice-aggregate-put-lines : tie.Need-slice-aggregate-put-lines
 slice-aggregate-put-lines c =

@@ -2,8 +2,8 @@
 use native.Mathlib.Omega.{arith}
 use borrow.Author.Needs.{needs}
 use Rattle.text.proofs.Put.{number-fits, number-end}
-use Rattle.apply_tickets.proofs.lines.put_short.Statement.{statement}
-use Rattle.apply_tickets.proofs.lines.put_short.Tie as tie
+use Rattle.report.proofs.lines.put_short.Statement.{statement}
+use Rattle.report.proofs.lines.put_short.Tie as tie
 
 put-number-requires : tie.Need-put-number-requires
 put-number-requires c κs =

@@ -2,10 +2,10 @@
 use mathlib.Core.Path.{refl, subst}
 use lib.ListN.{length}
 use Rattle.streams.specs.Input.{Within}
-use Rattle.apply_tickets.proofs.Going.{lent-kept}
+use Rattle.report.proofs.Going.{lent-kept}
 use borrow.Author.Needs.{needs}
-use Rattle.apply_tickets.proofs.turns.run_chunk.Statement.{statement}
-use Rattle.apply_tickets.proofs.turns.run_chunk.Tie as tie
+use Rattle.report.proofs.turns.run_chunk.Statement.{statement}
+use Rattle.report.proofs.turns.run_chunk.Tie as tie
 
 slice-aggregate-read-input : tie.Need-slice-aggregate-read-input
 slice-aggregate-read-input c = search needs
