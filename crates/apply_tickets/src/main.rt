@@ -9,7 +9,7 @@ use report::run_input;
 use streams::write_output;
 use table::MOST;
 use table::Word;
-use table::fresh;
+use table_calls::fresh;
 
 // How many bytes are read at once: whole tickets, whose lines fit a large buffer.
 const CHUNK: usize = 16000;

@@ -12,12 +12,11 @@ use Rattle.rdfs.specs.Numbers.{product}
 use Rattle.rdfs.specs.Facts.{graph}
 use Rattle.rdfs.specs.Words.{laidOut, facts}
 use Rattle.rdfs.specs.Clashes.{consistent?}
-use Rattle.rdfs.specs.Register.{orElse, badSize, badLayout, inconsistent, tableRefusal}
+use Rattle.rdfs.specs.Register.{orElse, badSize, badLayout, inconsistent, layoutRefusal, tableRefusal}
 use Rattle.rdfs.proofs.Decision.{check-sound, check-complete}
-use Rattle.table.specs.Calls.{lookupAnswer}
 use Rattle.table.proofs.Answers.{is-true, is-false}
 use Rattle.table.proofs.Sizes.{tests-size}
-use Rattle.table.proofs.Calls.{taken-laid}
+use Rattle.table.proofs.Refusals.{taken-laid}
 use Rattle.rules.specs.RuleOf.{ruleOf}
 use Rattle.consistency.specs.declared.Visited.{Visited}
 use Rattle.consistency.specs.declared.Visited.the-variants.{AllMet, Broken}
@@ -45,12 +44,12 @@ third true layout rest e = absurd (omega arith)
 third false true rest e = absurd (omega arith)
 third false false rest e = refl
 
-module _ (w : List ℕ) (a : ℕ) (e : a ≡ lookupAnswer w) where
+module _ (w : List ℕ) (a : ℕ) (e : a ≡ layoutRefusal product w 0) where
   pub refused-first : (a ≡ 0 → ⊥) → a ≡ tableRefusal product w 0
   refused-first n = first-two (badSize product w) (badLayout product w) (orElse (inconsistent product w) 3 0) a e n
 
   module _ (z : a ≡ 0) where
-    none : lookupAnswer w ≡ 0
+    none : layoutRefusal product w 0 ≡ 0
     none = sym e ∙ z
 
     pub past-laid : T (laidOut product 1 w)
@@ -78,5 +77,5 @@ module _ (w : List ℕ) (a : ℕ) (e : a ≡ lookupAnswer w) where
 
 pub refused-laid : (w : List ℕ) → 3 ≡ tableRefusal product w 0 → T (laidOut product 1 w) × (length w ≤ product .most)
 refused-laid w e =
-    let none : lookupAnswer w ≡ 0 = third (badSize product w) (badLayout product w) (inconsistent product w) e in
+    let none : layoutRefusal product w 0 ≡ 0 = third (badSize product w) (badLayout product w) (inconsistent product w) e in
     (past-laid w 0 (sym none) refl, past-fits w 0 (sym none) refl)

@@ -14,7 +14,7 @@ use Rattle.rdfs.specs.Clashes.{bars, unequal, existsFor, consistent?}
 use Rattle.rdfs.specs.Register.{cut, Table}
 use Rattle.rdfs.proofs.Cut.{cut-length}
 use Rattle.rdfs.proofs.Decision.{check-sound}
-use Rattle.table.specs.Calls.{freshWords}
+use Rattle.table_calls.specs.Calls.{freshWords}
 use Rattle.report.specs.Text.{Printed}
 use Rattle.report.specs.Turns.{start, Runs, Lent, Shows, Sized}
 use Rattle.report.specs.declared.turns.Turned.the-variants.{More, Last}

@@ -17,7 +17,7 @@ use list::Listed;
 use list::apply_each;
 use list::apply_list;
 use table::Word;
-use table::lookup;
+use table_calls::lookup;
 use ticket::apply;
 
 // The bytes that can be lent for an image.

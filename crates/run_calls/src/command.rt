@@ -20,7 +20,7 @@ use crate::report::print_words;
 use crate::tickets::print_records;
 use image::read;
 use table::Word;
-use table::fresh;
+use table_calls::fresh;
 
 // The names by their places among all names. The first six have a number.
 const TABLE: usize = 0;

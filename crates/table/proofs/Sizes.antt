@@ -1,12 +1,10 @@
 -- Refusal 1 by the length of a table. Assumes nothing.
 use Prim.Native.Nat.{ℕ, _<_}
-use mathlib.Core.Path.{_≡_, subst}
-use mathlib.Core.Bool.{false}
+use mathlib.Core.Path.{_≡_}
 use mathlib.Core.Logic.{_⊎_, inl, inr, ⊎-elim}
 use mathlib.Core.List.{List}
 use native.Mathlib.Omega.{arith}
-use native.Mathlib.Decide.{decLt}
-use lib.Dec.{T, leb, ltb, leb→le, le→leb, ltb→lt, lt→ltb}
+use lib.Dec.{leb, ltb, leb→le, le→leb, ltb→lt, lt→ltb}
 use lib.ListN.{length}
 use Rattle.rdfs.specs.Numbers.{Numbers}
 use Rattle.rdfs.specs.Register.{badSize}
@@ -17,6 +15,3 @@ tests-size N t = tests-as
     (tests-or {s = leb (length t) 0} {t = ltb (N .most) (length t)} (record { sound = leb→le (length t) 0; complete = le→leb (length t) 0 }) (record { sound = ltb→lt (N .most) (length t); complete = lt→ltb (N .most) (length t) }))
     (⊎-elim (λ h. inl (omega arith)) inr)
     (⊎-elim (λ h. inl (omega arith)) inr)
-
-pub size-some : (N : Numbers) (t : List ℕ) → badSize N t ≡ false → 0 < length t
-size-some N t e = elim (decLt 0 (length t)) [ yes l ↦ l | no n ↦ absurd (subst T e (tests-size N t .complete (inl (omega (arith, n))))) ]

@@ -4,4 +4,3 @@ pub mod Layout
 pub mod Found
 pub mod Room
 pub mod Counted
-pub mod Calls

@@ -4,9 +4,8 @@ ghost use lib.Dec.{T};
 ghost use lib.ListN.{length, drop};
 ghost use Rattle.rdfs.specs.Numbers.{product};
 ghost use Rattle.rdfs.specs.Words.{laidOut, filled};
-ghost use Rattle.rdfs.specs.Register.{badSize};
+ghost use Rattle.rdfs.specs.Register.{badSize, layoutRefusal};
 ghost use Rattle.table.specs.Layout.{zeros, Rising};
-ghost use Rattle.table.specs.Calls.{lookupAnswer};
 use crate::words::MOST;
 use crate::words::Word;
 use crate::words::is_below;
@@ -80,7 +79,7 @@ pub fn is_laid_out(t: &[Word]) -> bool
 
 // The first of refusals 1 and 2 whose condition holds, or 0.
 pub fn layout_refusal(t: &[Word]) -> u8
-    ensures { λ r. ⌜ r ≡ lookupAnswer (now (t .entry)) ⌝ }
+    ensures { λ r. ⌜ r ≡ layoutRefusal product (now (t .entry)) 0 ⌝ }
 {
     let bad = is_bad_size(t);
     if bad {

@@ -1,7 +1,7 @@
 -- `layout::layout_refusal`: the two tests in order. Assumes nothing.
 use denote.Ref.{now}
 use mathlib.Core.Path.{sym, _∙_}
-use Rattle.table.proofs.Calls.{answer-size, answer-layout, answer-none}
+use Rattle.table.proofs.Refusals.{answer-size, answer-layout, answer-none}
 use borrow.Author.Needs.{needs}
 use Rattle.table.proofs.layout.layout_refusal.Statement.{statement}
 use Rattle.table.proofs.layout.layout_refusal.Tie as tie

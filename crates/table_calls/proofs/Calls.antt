@@ -1,30 +1,26 @@
 -- What the public calls promise, case by case. Assumes nothing.
 use Prim.Native.Nat.{ℕ, _<_}
-use mathlib.Core.Path.{_≡_, refl, sym, ap, _∙_}
+use mathlib.Core.Path.{_≡_, refl, sym, ap, subst}
 use mathlib.Core.Bool.{Bool, true, false, not, _&&_, cond}
+use mathlib.Core.Logic.{inl}
 use mathlib.Core.List.{List, [], _∷_}
 use native.Mathlib.Omega.{arith}
+use native.Mathlib.Decide.{decLt}
 use lib.Dec.{T}
 use lib.ListN.{length, set}
-use Rattle.rdfs.specs.Numbers.{product}
+use Rattle.rdfs.specs.Numbers.{Numbers, product}
 use Rattle.rdfs.specs.Lists.{member}
 use Rattle.rdfs.specs.Words.{laidOut, filled, fresh}
 use Rattle.rdfs.specs.Register.{orElse, badSize}
 use Rattle.table.specs.Parts.{wordOf}
 use Rattle.table.specs.Room.{clearedFrom}
-use Rattle.table.specs.Calls.{freshAnswer, freshWords, lookupAnswer, lookupPresent}
+use Rattle.table.proofs.Sizes.{tests-size}
+use Rattle.table.proofs.Refusals.{refusal}
+use Rattle.table_calls.specs.Calls.{freshAnswer, freshWords, lookupAnswer, lookupPresent}
 
--- Refusals 1 and 2, and whether a lookup says yes, by the tests of a table's size and layout.
-abbrev refusal : Bool → Bool → ℕ
-refusal bad laid = orElse bad 1 (orElse (not laid) 2 0)
-
+-- Whether a lookup says yes, by the tests of a table's size and layout.
 abbrev says : Bool → Bool → Bool → Bool
 says bad laid there = not bad && (not (not laid) && there)
-
-refusal-laid : (bad laid : Bool) → refusal bad laid ≡ 0 → T laid
-refusal-laid true laid e = absurd (omega arith)
-refusal-laid false true e = tt
-refusal-laid false false e = absurd (omega arith)
 
 says-no : (bad laid there : Bool) → (refusal bad laid ≡ 0 → ⊥) → says bad laid there ≡ false
 says-no true laid there n = refl
@@ -37,22 +33,6 @@ says-whether false true there e = refl
 says-whether false false there e = absurd (omega arith)
 
 module _ (t : List ℕ) where
-  refusal-is : (bad laid : Bool) → badSize product t ≡ bad → laidOut product 1 t ≡ laid → lookupAnswer t ≡ refusal bad laid
-  refusal-is bad laid p q = ap (λ b. refusal b (laidOut product 1 t)) p ∙ ap (refusal bad) q
-
-  pub answer-size : badSize product t ≡ true → lookupAnswer t ≡ 1
-  answer-size p = refusal-is true (laidOut product 1 t) p refl
-
-  pub answer-layout : badSize product t ≡ false → laidOut product 1 t ≡ false → lookupAnswer t ≡ 2
-  answer-layout p q = refusal-is false false p q
-
-  pub answer-none : badSize product t ≡ false → laidOut product 1 t ≡ true → lookupAnswer t ≡ 0
-  answer-none p q = refusal-is false true p q
-
-  -- A table that is not refused is laid out.
-  pub taken-laid : lookupAnswer t ≡ 0 → T (laidOut product 1 t)
-  taken-laid e = refusal-laid (badSize product t) (laidOut product 1 t) e
-
   module _ (w : ℕ) where
     pub present-refused : (lookupAnswer t ≡ 0 → ⊥) → lookupPresent t w ≡ false
     present-refused n = says-no (badSize product t) (laidOut product 1 t) (member (filled t) w) n
@@ -65,6 +45,10 @@ module _ (t : List ℕ) where
 
   pub fresh-taken : badSize product t ≡ false → (0 ≡ freshAnswer t) × (fresh product (length t) ≡ freshWords t)
   fresh-taken p = (sym (ap (λ b. orElse b 1 0) p), sym (ap (λ b. cond b t (fresh product (length t))) p))
+
+-- A table of a good size has a first word.
+pub size-some : (N : Numbers) (t : List ℕ) → badSize N t ≡ false → 0 < length t
+size-some N t e = elim (decLt 0 (length t)) [ yes l ↦ l | no n ↦ absurd (subst T e (tests-size N t .complete (inl (omega (arith, n))))) ]
 
 -- The word of Cl(0), then zeros.
 pub fresh-made : (t : List ℕ) → 0 < length t → clearedFrom (set t 0 (wordOf 1 0 0 0)) 1 ≡ fresh product (length t)

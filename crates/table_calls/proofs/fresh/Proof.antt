@@ -4,12 +4,11 @@ use mathlib.Core.Path.{sym, ap, _∙_}
 use denote.Ref.{now}
 use lib.ListN.{set, length-set}
 use Rattle.rdfs.specs.Numbers.{product}
 use Rattle.table.specs.Room.{clearedFrom}
-use Rattle.table.proofs.Sizes.{size-some}
-use Rattle.table.proofs.Calls.{fresh-refused, fresh-taken, fresh-made}
+use Rattle.table_calls.proofs.Calls.{fresh-refused, fresh-taken, size-some, fresh-made}
 use borrow.Author.Needs.{needs}
-use Rattle.table.proofs.fresh.Statement.{statement}
-use Rattle.table.proofs.fresh.Tie as tie
+use Rattle.table_calls.proofs.fresh.Statement.{statement}
+use Rattle.table_calls.proofs.fresh.Tie as tie
 
 is-bad-size-requires : tie.Need-is-bad-size-requires
 is-bad-size-requires c κs = search needs

@@ -3,11 +3,12 @@ use denote.Ref.{now}
 use mathlib.Core.Path.{sym, ap, _∙_}
 use Rattle.rdfs.specs.Numbers.{product}
 use Rattle.rdfs.specs.Lists.{member}
 use Rattle.table.proofs.Filled.{counted-filled, counted-ascending}
-use Rattle.table.proofs.Calls.{taken-laid, present-refused, present-taken}
+use Rattle.table.proofs.Refusals.{taken-laid}
+use Rattle.table_calls.proofs.Calls.{present-refused, present-taken}
 use borrow.Author.Needs.{needs}
-use Rattle.table.proofs.lookup.Statement.{statement}
-use Rattle.table.proofs.lookup.Tie as tie
+use Rattle.table_calls.proofs.lookup.Statement.{statement}
+use Rattle.table_calls.proofs.lookup.Tie as tie
 
 layout-refusal-requires : tie.Need-layout-refusal-requires
 layout-refusal-requires c κs = search needs

@@ -1,0 +1,2 @@
+-- Calls: for fresh and lookup.
+mod Calls
