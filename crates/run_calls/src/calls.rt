@@ -1,12 +1,6 @@
 // The calls, and what is printed of each.
 use crate::command::UNTOUCHED;
-use crate::compare::bytes_in;
-use crate::put::word_at;
-use crate::report::print_answer;
-use crate::report::print_bytes;
-use crate::report::print_number;
-use crate::report::print_rule;
-use crate::report::print_test;
+use crate::rule::print_rule;
 use consistency::INCONSISTENT;
 use consistency::Visited;
 use consistency::check;
@@ -15,6 +9,12 @@ use image::body;
 use image::write;
 use list::apply_list;
 use list_form::Listed;
+use script::bytes_in;
+use script::print_answer;
+use script::print_bytes;
+use script::print_number;
+use script::print_test;
+use script::word_at;
 use singles::apply_each;
 use table::Word;
 use table::lookup;

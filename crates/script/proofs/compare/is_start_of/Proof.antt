@@ -2,8 +2,8 @@
 use Prim.Native.Nat.{_-_, _≤_}
 use lib.ListN.{length}
 use borrow.Author.Needs.{needs}
-use Rattle.run_calls.proofs.compare.is_start_of.Statement.{statement}
-use Rattle.run_calls.proofs.compare.is_start_of.Tie as tie
+use Rattle.script.proofs.compare.is_start_of.Statement.{statement}
+use Rattle.script.proofs.compare.is_start_of.Tie as tie
 
 abbrev Inv-loop : tie.InvT-loop
 Inv-loop t other i₀ i = (i ≤ length t) × (length t ≤ length other)

@@ -2,8 +2,8 @@
 use Prim.Native.Nat.{_-_, _≤_}
 use lib.ListN.{length}
 use borrow.Author.Needs.{needs}
-use Rattle.run_calls.proofs.report.print_words.Statement.{statement}
-use Rattle.run_calls.proofs.report.print_words.Tie as tie
+use Rattle.script.proofs.report.print_words.Statement.{statement}
+use Rattle.script.proofs.report.print_words.Tie as tie
 
 abbrev Inv-loop : tie.InvT-loop
 Inv-loop t n i₀ i = (i ≤ n) × (n ≤ length t)

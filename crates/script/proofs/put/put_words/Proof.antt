@@ -3,8 +3,8 @@ use Prim.Native.Nat.{_-_, _≤_}
 use mathlib.Core.Path.{_≡_}
 use lib.ListN.{length}
 use borrow.Author.Needs.{needs}
-use Rattle.run_calls.proofs.put.put_words.Statement.{statement}
-use Rattle.run_calls.proofs.put.put_words.Tie as tie
+use Rattle.script.proofs.put.put_words.Statement.{statement}
+use Rattle.script.proofs.put.put_words.Tie as tie
 
 abbrev Inv-loop : tie.InvT-loop
 Inv-loop t₀ given i₀ w₀ t i w = (i ≤ length t₀) × (length t ≡ length t₀)

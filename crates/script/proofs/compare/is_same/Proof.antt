@@ -3,8 +3,8 @@ use Prim.Native.Nat.{_-_, _≤_}
 use mathlib.Core.Path.{_≡_}
 use lib.ListN.{length}
 use borrow.Author.Needs.{needs}
-use Rattle.run_calls.proofs.compare.is_same.Statement.{statement}
-use Rattle.run_calls.proofs.compare.is_same.Tie as tie
+use Rattle.script.proofs.compare.is_same.Statement.{statement}
+use Rattle.script.proofs.compare.is_same.Tie as tie
 
 abbrev Inv-loop : tie.InvT-loop
 Inv-loop a b i₀ i = (i ≤ length a) × (length a ≡ length b)

@@ -2,8 +2,8 @@
 use Prim.Native.Nat.{_-_, _≤_}
 use lib.ListN.{length}
 use borrow.Author.Needs.{needs}
-use Rattle.run_calls.proofs.line.find_name.Statement.{statement}
-use Rattle.run_calls.proofs.line.find_name.Tie as tie
+use Rattle.script.proofs.line.find_name.Statement.{statement}
+use Rattle.script.proofs.line.find_name.Tie as tie
 
 abbrev Inv-loop : tie.InvT-loop
 Inv-loop names name i₀ k₀ i k = k ≤ i

@@ -5,8 +5,8 @@ use native.Mathlib.Omega.{arith}
 use lib.Seq.{length-take-le}
 use lib.ListN.{length}
 use borrow.Author.Needs.{needs}
-use Rattle.run_calls.proofs.line.put_data.Statement.{statement}
-use Rattle.run_calls.proofs.line.put_data.Tie as tie
+use Rattle.script.proofs.line.put_data.Statement.{statement}
+use Rattle.script.proofs.line.put_data.Tie as tie
 
 abbrev Inv-loop : tie.InvT-loop
 Inv-loop text out₀ i₀ n₀ out i n = (i ≤ length text) × (n ≤ length out₀) × (length out ≡ length out₀)

@@ -3,8 +3,8 @@ use Prim.Native.Nat.{_-_, _≤_}
 use mathlib.Core.Path.{_≡_}
 use lib.ListN.{length}
 use borrow.Author.Needs.{needs}
-use Rattle.run_calls.proofs.put.copy_words.Statement.{statement}
-use Rattle.run_calls.proofs.put.copy_words.Tie as tie
+use Rattle.script.proofs.put.copy_words.Statement.{statement}
+use Rattle.script.proofs.put.copy_words.Tie as tie
 
 abbrev Inv-loop : tie.InvT-loop
 Inv-loop from to₀ i₀ to i = (i ≤ length from) × (i ≤ length to₀) × (length to ≡ length to₀)
