@@ -8,9 +8,9 @@ use Rattle.rdfs.specs.Numbers.{product, recordLength}
 use Rattle.rdfs.specs.Register.{Answer, step, cut, register}
 use Rattle.ticket.specs.Answered.{Answered}
 use Rattle.ticket.specs.declared.Applied.{Applied}
-use Rattle.list.specs.Loops.{acceptedAfter, OneRun, AllRun}
-use Rattle.list.proofs.CutOff.{cut-from, cut-end}
-use Rattle.list.proofs.Walked.{Walked, walked-place, walked-more, walked-done}
+use Rattle.list_form.specs.Loops.{acceptedAfter, OneRun, AllRun}
+use Rattle.list_form.proofs.CutOff.{cut-from, cut-end}
+use Rattle.list_form.proofs.Walked.{Walked, walked-place, walked-more, walked-done}
 
 -- A single call, and its number put to its byte.
 pub one-run : {k ok r : ℕ} {a : Applied} {v out new : List ℕ} {s : Answer} → Answered a v s → r ≡ acceptedAfter ok (a .answer) → new ≡ set out k (a .answer) → OneRun k ok r v out new s

@@ -13,10 +13,10 @@ use Rattle.rdfs.proofs.Perms.{same-tickets-length}
 use Rattle.rdfs.proofs.AfterEach.{after-each}
 use Rattle.rdfs.proofs.Rearrangement.{rearrangement}
 use Rattle.rdfs.proofs.Theorems.{product-sound}
-use Rattle.list.specs.Listing.{listRefusal, ListPromise}
+use Rattle.list_form.specs.Listing.{listRefusal, ListPromise}
 use Rattle.list.specs.Demand3.{Calls, Contracts, Single, OneByOne, leftBy, AsRegister, cutOff, AfterTicket, Demand3}
-use Rattle.list.proofs.CutOff.{cut-take}
-use Rattle.list.proofs.Runs.{words-next, number-at}
+use Rattle.list_form.proofs.CutOff.{cut-take}
+use Rattle.list_form.proofs.Runs.{words-next, number-at}
 use Rattle.list.proofs.Taken.{room-runs, not-14-room, answered-ran}
 use Rattle.list.proofs.Singles.{singly, first-calls}
 

@@ -10,8 +10,8 @@ use borrow.Author.Tests.{le-ltb, ltb-false}
 use Rattle.rdfs.specs.Numbers.{product, recordLength}
 use Rattle.rdfs.specs.Register.{orElse, cut, register, Table}
 use Rattle.rdfs.proofs.Steps.{table-passes}
-use Rattle.list.specs.declared.Listed.{Listed}
-use Rattle.list.specs.Listing.{listRefusal, listingBy, listing, ListAnswered, ListPromise}
+use Rattle.list_form.specs.declared.Listed.{Listed}
+use Rattle.list_form.specs.Listing.{listRefusal, listingBy, listing, ListAnswered, ListPromise}
 use Rattle.list.specs.Demand3.{Ran}
 
 module _ (w bytes answers : List ℕ) (t : Table product w) where

@@ -13,8 +13,8 @@ use Rattle.rdfs.specs.Orders.{SameTickets, InOrder, AllInsertions, AllAccepted}
 use Rattle.ticket.specs.Answered.{ApplyPromise}
 use Rattle.ticket.specs.declared.Applied.{Applied}
 use Rattle.ticket_form.specs.declared.Ticket.{Ticket}
-use Rattle.list.specs.declared.Listed.{Listed}
-use Rattle.list.specs.Listing.{acceptedOf, refusedOf, written, recordBytes, ListPromise, RecordsPromise}
+use Rattle.list_form.specs.declared.Listed.{Listed}
+use Rattle.list_form.specs.Listing.{acceptedOf, refusedOf, written, recordBytes, ListPromise, RecordsPromise}
 
 -- The calls: by the words and bytes that one is lent, what it may answer, and the words and answer bytes that it may leave.
 pub record Calls : Type 1 where

@@ -1,3 +1,1 @@
-pub mod Listing
-pub mod Loops
 pub mod Demand3

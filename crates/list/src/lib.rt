@@ -1,25 +1,51 @@
-// Lists of tickets as bytes, run in turn on one table.
+// A list of tickets as bytes, run in turn on one table.
 //
-// The public calls are `apply_list`, and `apply_each`, a loop over the single call. They have no `requires`:
-// each says, for all inputs, its answer, both counts, and every word and byte afterwards. The other functions
-// serve the crates above: `find_end` says where a ticket's bytes end; `list_refusal`, `put_number` and
-// `sum_up` are what a list call does besides running its tickets. Of these `put_number` and `sum_up` have a
-// `requires`, on the counts that a list call keeps. The crate assumes nothing.
+// The public call is `apply_list`. It has no `requires`: it says, for all inputs, its answer, both counts, and
+// every word and byte afterwards. Demand 3, about a whole list by every call, is proved here (proofs/Demand3).
+// The crate assumes nothing.
+ghost use Prim.Native.Nat.{_≤_};
+ghost use lib.ListN.{length};
+ghost use Rattle.rdfs.specs.Numbers.{product, recordLength};
+ghost use Rattle.rdfs.specs.Register.{cut, register, Table};
+ghost use Rattle.list_form.specs.Listing.{listing, ListAnswered};
+ghost use Rattle.list_form.specs.Loops.{AllRun};
+pub use list_form::Listed;
+use list_form::count_tickets;
+use list_form::find_end;
+use list_form::list_refusal;
+use list_form::put_number;
+use list_form::sum_up;
+use table::Word;
+use ticket::apply_checked;
 
-mod answers;
-mod bytes;
+// Runs the tickets in turn on a table known to be consistent. The answer is how many are accepted.
+fn run_checked(table: &mut [Word], bytes: &[u8], answers: &mut [u8]) -> usize
+    requires { ⌜ Table product (now table) × (length (cut recordLength (now bytes)) ≤ length (now answers)) ⌝ }
+    ensures { λ r. ⌜ AllRun r (now (table .exit)) (now (answers .entry)) (now (answers .exit)) (register product (now (table .entry)) (now (bytes .entry))) ⌝ }
+{
+    let mut i = 0;
+    let mut k = 0;
+    let mut ok = 0;
+    while i < bytes.len() {
+        let e = find_end(i, bytes.len());
+        let applied = apply_checked(table, &bytes[i..e]);
+        ok = put_number(answers, k, ok, applied.answer);
+        k += 1;
+        i = e;
+    }
+    ok
+}
 
-pub use answers::FEW_ANSWERS;
-pub use answers::list_refusal;
-pub use answers::put_number;
-pub use answers::sum_up;
-pub use bytes::apply_each;
-pub use bytes::apply_list;
-pub use bytes::find_end;
-
-// What a list call answers: 0 or a refusal, and how many tickets were accepted and how many refused, both 0 on refusal.
-pub struct Listed {
-    pub answer: u8,
-    pub accepted: usize,
-    pub refused: usize,
+// Runs a list of tickets in turn on one table, which is checked once. Each ticket's number goes to its answer byte; bytes beyond the list are
+// as they were. Refused with 1, 2, 3 or 14, the table and the answer bytes are as found.
+pub fn apply_list(table: &mut [Word], bytes: &[u8], answers: &mut [u8]) -> Listed
+    ensures { λ r. ⌜ ListAnswered r (now (table .exit)) (now (answers .exit)) (listing (now (table .entry)) (now (bytes .entry)) (now (answers .entry))) ⌝ }
+{
+    let n = count_tickets(bytes.len());
+    let answer = list_refusal(table, n, answers.len());
+    if answer != 0 {
+        return sum_up(answer, 0, 0);
+    }
+    let ok = run_checked(table, bytes, answers);
+    sum_up(answer, n, ok)
 }

@@ -11,10 +11,10 @@ use Rattle.rdfs.specs.Register.{run, cut, register, Table}
 use Rattle.rdfs.proofs.Cut.{cut-record}
 use Rattle.ticket_form.specs.Form.{bytesOf}
 use Rattle.ticket_form.specs.declared.Ticket.{Ticket}
-use Rattle.list.specs.declared.Listed.{Listed}
-use Rattle.list.specs.Listing.{refusalOf, listing, ListAnswered, recordBytes}
-use Rattle.list.specs.Loops.{AllRun, listedOf}
-use Rattle.list.proofs.Parts.{list-table, list-room, list-refused, list-run}
+use Rattle.list_form.specs.declared.Listed.{Listed}
+use Rattle.list_form.specs.Listing.{refusalOf, listing, ListAnswered, recordBytes}
+use Rattle.list_form.specs.Loops.{AllRun, listedOf}
+use Rattle.list_form.proofs.Parts.{list-table, list-room, list-refused, list-run}
 use Rattle.records.specs.Turns.{turnsOf}
 
 -- The tickets of records are their bytes.

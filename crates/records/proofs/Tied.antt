@@ -10,7 +10,7 @@ use ghost.Atoms.{Atoms}
 use contract.Monad.{Fun}
 use denote.Ref.{now}
 use Rattle.table.proofs.Promising.{promising}
-use Rattle.list.specs.Listing.{RecordsPromise}
+use Rattle.list_form.specs.Listing.{RecordsPromise}
 use Rattle.records.proofs.apply_records as call
 
 module _ {M : Type 1} (𝓤 : URA M) (H : Heap 𝓤) (A : Atoms 𝓤) (mem : Memory → SProp 𝓤) (run : Routine → Fun 𝓤) where

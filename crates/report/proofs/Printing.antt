@@ -10,8 +10,8 @@ use Rattle.rdfs.proofs.AfterEach.{run-table}
 use Rattle.rdfs.proofs.Theorems.{product-sound}
 use Rattle.ticket.specs.Answered.{Answered}
 use Rattle.ticket.specs.declared.Applied.{Applied}
-use Rattle.list.proofs.Runs.{more-words, run-words}
-use Rattle.list.proofs.CutOff.{cut-from, cut-end}
+use Rattle.list_form.proofs.Runs.{more-words, run-words}
+use Rattle.list_form.proofs.CutOff.{cut-from, cut-end}
 use Rattle.text.specs.Text.{Puts}
 use Rattle.report.specs.Text.{Line, Lines, Printed}
 

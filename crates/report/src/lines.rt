@@ -6,7 +6,7 @@ ghost use Rattle.rdfs.specs.Words.{filled};
 ghost use Rattle.rdfs.specs.Register.{cut, Table};
 ghost use Rattle.text.specs.Text.{Number, Puts};
 ghost use Rattle.report.specs.Text.{Line, Printed};
-use list::find_end;
+use list_form::find_end;
 use table::Word;
 use table::count_facts;
 use text::put_number;

@@ -1,13 +1,13 @@
 // An image with each byte set to each value. It is refused, or it is the image of the table read.
 ghost use Prim.Native.Nat.{_<_};
-use crate::compare::bytes_in;
-use crate::compare::is_same;
-use crate::compare::is_start_of;
-use crate::put::copy_words;
-use crate::report::print_number;
 use image::LONGEST;
 use image::read;
 use image::write;
+use script::bytes_in;
+use script::copy_words;
+use script::is_same;
+use script::is_start_of;
+use script::print_number;
 use table::Word;
 
 // The values of a byte.

@@ -31,11 +31,9 @@
 // An empty line and one that begins with # are passed over. Any other line prints a question mark.
 mod calls;
 mod command;
-mod compare;
 mod damage;
 mod line;
-mod put;
-mod report;
+mod rule;
 mod tickets;
 
 use libc::STDIN_FILENO;

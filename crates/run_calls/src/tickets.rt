@@ -1,11 +1,11 @@
 // Tickets as structs.
 ghost use Prim.Native.Nat.{_+_, _≤_};
 ghost use lib.ListN.{length};
-ghost use Rattle.list.specs.Listing.{listing, ListAnswered, recordBytes};
+ghost use Rattle.list_form.specs.Listing.{listing, ListAnswered, recordBytes};
 use crate::calls::print_listed;
-use crate::report::print_text;
-use list::Listed;
+use list_form::Listed;
 use records::apply_records;
+use script::print_text;
 use table::Word;
 use ticket_form::RECORD;
 use ticket_form::Ticket;

@@ -42,17 +42,17 @@ use Rattle.rdfs.specs.Numbers.{product}
 use Rattle.rdfs.specs.Register.{run, Table}
 use Rattle.ticket_form.specs.Form.{bytesOf}
 use Rattle.ticket_form.specs.declared.Ticket.{Ticket}
-use Rattle.list.specs.Listing.{refusalOf, listing, ListAnswered, recordBytes}
-use Rattle.list.specs.Loops.{AllRun, listedOf}
+use Rattle.list_form.specs.Listing.{refusalOf, listing, ListAnswered, recordBytes}
+use Rattle.list_form.specs.Loops.{AllRun, listedOf}
 use Rattle.records.specs.Turns.{turnsOf}
-use Rattle.list.specs.declared.Listed.{Listed}
+use Rattle.list_form.specs.declared.Listed.{Listed}
 use Rattle.records.proofs.Relent.{Kept, lent-again, given-back}
 use Rattle.records.proofs.Parts.{records-asked, records-done}
 use Rattle.ticket_form.proofs.Ticket as T
-use Rattle.list.proofs.list_refusal as admit
-use Rattle.list.proofs.list_refusal.Symbol as admit-def
-use Rattle.list.proofs.list_refusal.Symbol.{name as #list-refusal}
-use Rattle.list.proofs.list_refusal.Met as admit-thm
+use Rattle.list_form.proofs.list_refusal as admit
+use Rattle.list_form.proofs.list_refusal.Symbol as admit-def
+use Rattle.list_form.proofs.list_refusal.Symbol.{name as #list-refusal}
+use Rattle.list_form.proofs.list_refusal.Met as admit-thm
 use Rattle.records.proofs.count_turns as turns
 use Rattle.records.proofs.count_turns.Symbol as turns-def
 use Rattle.records.proofs.count_turns.Symbol.{name as #count-turns}
@@ -61,12 +61,12 @@ use Rattle.records.proofs.run_records as runs-all
 use Rattle.records.proofs.run_records.Symbol as runs-all-def
 use Rattle.records.proofs.run_records.Symbol.{name as #run-records}
 use Rattle.records.proofs.run_records.Met as runs-all-thm
-use Rattle.list.proofs.sum_up as totals
-use Rattle.list.proofs.sum_up.Symbol as totals-def
-use Rattle.list.proofs.sum_up.Symbol.{name as #sum-up}
-use Rattle.list.proofs.sum_up.Met as totals-thm
-use Rattle.list.proofs.Listed as S
-use Rattle.list.proofs.Listed.Laws as S′
+use Rattle.list_form.proofs.sum_up as totals
+use Rattle.list_form.proofs.sum_up.Symbol as totals-def
+use Rattle.list_form.proofs.sum_up.Symbol.{name as #sum-up}
+use Rattle.list_form.proofs.sum_up.Met as totals-thm
+use Rattle.list_form.proofs.Listed as S
+use Rattle.list_form.proofs.Listed.Laws as S′
 use Rattle.records.proofs.apply_records.Key.{name as #apply-records}
 use Rattle.records.proofs.apply_records as list
 use Rattle.records.proofs.apply_records.Statement as stated
@@ -269,8 +269,8 @@ apply-records-spec 𝓤 H 𝓜 𝓖 𝓡 =
     entered 𝓤 H (tripleOf 𝓤 H (𝓖 .A) list.signature (list.spec 𝓤 H (𝓖 .A) (𝓜 .mem) (𝓡 .run)))
     (tables 𝓤 H 𝓜 𝓡 code.env .C) (tables 𝓤 H 𝓜 𝓡 code.env .Λ) #apply-records code.function (code.unfolded 𝓤 H 𝓜 𝓡)
     (list-meets 𝓤 H (𝓖 .A) (givenOf 𝓤 H 𝓜 𝓖) (𝓜 .mem) (𝓡 .run) (tablesOf 𝓤 H 𝓜 (tables 𝓤 H 𝓜 𝓡 code.env)) (
-      cited 𝓤 H (AdmitC 𝓤 H (𝓖 .A) (𝓜 .mem) (𝓡 .run)) 𝓜 𝓡 code.env #list-refusal admit-def.routine code.calls-list·list-refusal (admit-thm.met 𝓤 H 𝓜 𝓖 𝓡),
+      cited 𝓤 H (AdmitC 𝓤 H (𝓖 .A) (𝓜 .mem) (𝓡 .run)) 𝓜 𝓡 code.env #list-refusal admit-def.routine code.calls-list-form·list-refusal (admit-thm.met 𝓤 H 𝓜 𝓖 𝓡),
       cited 𝓤 H (TurnsC 𝓤 H (𝓖 .A) (𝓜 .mem) (𝓡 .run)) 𝓜 𝓡 code.env #count-turns turns-def.routine code.calls-records·count-turns (turns-thm.met 𝓤 H 𝓜 𝓖 𝓡),
       cited 𝓤 H (RunC 𝓤 H (𝓖 .A) (𝓜 .mem) (𝓡 .run)) 𝓜 𝓡 code.env #run-records runs-all-def.routine code.calls-records·run-records (runs-all-thm.met 𝓤 H 𝓜 𝓖 𝓡),
-      cited 𝓤 H (TotalsC 𝓤 H (𝓖 .A) (𝓜 .mem) (𝓡 .run)) 𝓜 𝓡 code.env #sum-up totals-def.routine code.calls-list·sum-up (totals-thm.met 𝓤 H 𝓜 𝓖 𝓡),
+      cited 𝓤 H (TotalsC 𝓤 H (𝓖 .A) (𝓜 .mem) (𝓡 .run)) 𝓜 𝓡 code.env #sum-up totals-def.routine code.calls-list-form·sum-up (totals-thm.met 𝓤 H 𝓜 𝓖 𝓡),
     ))

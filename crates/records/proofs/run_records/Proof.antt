@@ -54,7 +54,7 @@ use denote.Exit.{yes}
 use Rattle.rdfs.specs.Numbers.{product}
 use Rattle.rdfs.specs.Register.{step, run, Table}
 use Rattle.ticket_form.specs.Form.{bytesOf}
-use Rattle.list.specs.Loops.{OneRun, AllRun}
+use Rattle.list_form.specs.Loops.{OneRun, AllRun}
 use Rattle.records.specs.Turns.{blank}
 use Rattle.ticket_form.specs.declared.Ticket.{Ticket}
 use Rattle.records.proofs.Relent.{Kept, lent-again, given-back}

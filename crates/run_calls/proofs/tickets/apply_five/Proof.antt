@@ -43,13 +43,13 @@ use denote.Triple.Table.{entered, cited}
 use denote.Triple.Walked.{says, Stays, gave-slice, stay-none, walkOf, Walks, ends-at, walked, goes-gave-slice, goes-none, walk-meets}
 use denote.Exit.{yes}
 use Rattle.ticket_form.specs.declared.Ticket.{Ticket}
-use Rattle.list.specs.declared.Listed.{Listed}
-use Rattle.list.specs.Listing.{listing, ListAnswered, recordBytes}
+use Rattle.list_form.specs.declared.Listed.{Listed}
+use Rattle.list_form.specs.Listing.{listing, ListAnswered, recordBytes}
 use Rattle.run_calls.proofs.Elements.{Elements, elements-in, elements-out}
 use Rattle.ticket_form.proofs.Ticket as T
 use Rattle.ticket_form.proofs.Ticket.Laws as T′
-use Rattle.list.proofs.Listed as S
-use Rattle.list.proofs.Listed.Laws as S′
+use Rattle.list_form.proofs.Listed as S
+use Rattle.list_form.proofs.Listed.Laws as S′
 use Rattle.records.proofs.apply_records as list
 use Rattle.records.proofs.apply_records.Symbol as list-def
 use Rattle.records.proofs.apply_records.Symbol.{name as #apply-records}

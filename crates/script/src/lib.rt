@@ -1,0 +1,28 @@
+// For a program that runs a script: a line read, and a line printed. Names among names, bytes and words in
+// hexadecimal, numbers; runs of bytes and of words compared and copied.
+//
+// The functions print, or serve those that do; they promise what keeps their callers within what is lent.
+// `find_byte` asks for a place within its text. Assumed are the kit's libc functions, for writing.
+mod compare;
+mod line;
+mod put;
+mod report;
+
+pub use compare::bytes_in;
+pub use compare::is_same;
+pub use compare::is_start_of;
+pub use compare::words_in;
+pub use line::find_byte;
+pub use line::find_name;
+pub use line::put_data;
+pub use put::copy_words;
+pub use put::number_in;
+pub use put::put_words;
+pub use put::word_at;
+pub use report::print_answer;
+pub use report::print_bytes;
+pub use report::print_facts;
+pub use report::print_number;
+pub use report::print_test;
+pub use report::print_text;
+pub use report::print_words;

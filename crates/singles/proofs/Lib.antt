@@ -1,0 +1,2 @@
+-- Tied: the contract in the source is a premise of demand 3.
+pub mod Tied
