@@ -14,8 +14,10 @@ use Rattle.rdfs.specs.Numbers.{product}
 use Rattle.rdfs.specs.Lists.{_∈_}
 use Rattle.rdfs.specs.Words.{filled, padded}
 use Rattle.rdfs.specs.Register.{orElse, badSize, badLayout, inconsistent, tableRefusal, Table}
+use Rattle.rdfs.proofs.Refusals.{passed-link}
 use Rattle.rdfs.proofs.Steps.{checked-table}
 use Rattle.rdfs.proofs.Theorems.{product-sound}
+use Rattle.table.proofs.Answers.{is-false}
 use Rattle.table.proofs.Filled.{filled-within}
 use Rattle.contents.specs.Form.{form, kinds}
 use Rattle.contents.specs.Image.{bodyOf}
@@ -23,10 +25,11 @@ use Rattle.contents.specs.Reading.{Facts, wordsOf, malformed, bodyStart, bodySi
 use Rattle.contents.specs.Parts.{BodyPromise}
 use Rattle.contents.proofs.RoundTrip.{filled-facts}
 use Rattle.contents.proofs.Product.{proper}
-use Rattle.image.specs.Calls.{tableImage, writeAnswer, writeLength, WritePromise, readAnswer, readWords, ReadPromise}
-use Rattle.image.specs.declared.Written.{Written}
-use Rattle.image.proofs.ReadCall.{else-none, read-refused}
-use Rattle.image.proofs.WriteCall.{write-done, write-parts, write-taken}
+use Rattle.writing.specs.Calls.{tableImage, writeAnswer, writeLength, WritePromise}
+use Rattle.writing.specs.declared.Written.{Written}
+use Rattle.writing.proofs.WriteCall.{write-done, write-parts, write-taken}
+use Rattle.reading.specs.Calls.{readAnswer, readWords, ReadPromise}
+use Rattle.reading.proofs.ReadCall.{read-refused}
 use Rattle.image.proofs.Theorems.{body-is-ids, image-reads-back, table-reads-back, read-writes}
 
 module _ (t output : List ℕ) (w : Written) (out : List ℕ) (p : WritePromise t output w out) where
@@ -65,7 +68,7 @@ module _ (t output : List ℕ) (w : Written) (out : List ℕ) (p : WritePromise 
       let s = write-saved z in
       let table : Table product t = checked-table product t (sym (s .0)) in
       let later : ℕ = orElse (badLayout product t) 2 (orElse (inconsistent product t) 3 0) in
-      let sized : badSize product t ≡ false = else-none (badSize product t) 1 later (omega arith) (sym (s .0)) .0 in
+      let sized : badSize product t ≡ false = is-false (passed-link (badSize product t) 1 later 0 (omega arith) (sym (s .0)) .0) in
       let size : badSize product u ≡ false = ap (λ n. leb n 0 || ltb (product .most) n) h ∙ sized in
       let within : length (filled t) ≤ length t = filled-within product t (table .laid) in
       let fits : length (filled t) ≤ length u = subst (λ n. length (filled t) ≤ n) (sym h) within in

@@ -18,11 +18,12 @@ use Rattle.table.proofs.Filled.{filled-within}
 use Rattle.contents.specs.Form.{Form, Proper, form, kinds}
 use Rattle.contents.specs.Image.{bodyOf, imageOf}
 use Rattle.contents.specs.Reading.{Facts, wordsOf, malformed, bodyStart, bodySize}
-use Rattle.image.specs.Calls.{tableImage, readAnswer, readWords}
 use Rattle.contents.proofs.RoundTrip.{words-again, written-well, read-well, words-full, body-ids, filled-facts}
 use Rattle.contents.proofs.Product.{proper}
-use Rattle.image.proofs.Held.{held-filled, held-checked}
-use Rattle.image.proofs.ReadCall.{read-done, read-fitting, read-parts}
+use Rattle.writing.specs.Calls.{tableImage}
+use Rattle.reading.specs.Calls.{readAnswer, readWords}
+use Rattle.reading.proofs.Held.{held-filled, held-checked}
+use Rattle.reading.proofs.ReadCall.{read-done, read-fitting, read-parts}
 
 -- For any numbers and any form with an entry for each kind: an image that was written is well formed and gives its words.
 pub written-reads : (N : Numbers) (F : Form) → Sound N → Proper F → 10 ≤ F .entries → (l : List ℕ) → Facts N l

@@ -18,10 +18,10 @@ use Rattle.rdfs.proofs.Steps.{checked-table}
 use Rattle.rdfs.proofs.Theorems.{product-sound}
 use Rattle.contents.specs.Form.{form, largestFact, firstBody}
 use Rattle.contents.specs.Reading.{wordsOf}
-use Rattle.image.specs.Calls.{readAnswer, readWords}
-use Rattle.image.specs.Writing.{Writable}
 use Rattle.contents.proofs.RoundTrip.{words-some}
-use Rattle.image.proofs.Measuring.{image-small}
+use Rattle.writing.specs.Writing.{Writable}
+use Rattle.writing.proofs.Measuring.{image-small}
+use Rattle.reading.specs.Calls.{readAnswer, readWords}
 use Rattle.image.proofs.Theorems.{read-writes}
 use Rattle.print_facts.specs.Text.{Printed, PrintedFor, Lent, wordsRead}
 

@@ -8,7 +8,7 @@ use lib.ListN.{length, take, replicate}
 use Rattle.rdfs.specs.Numbers.{product}
 use Rattle.contents.specs.Form.{form, largestFact, firstBody}
 use Rattle.contents.specs.Reading.{wordsOf}
-use Rattle.image.specs.Calls.{readAnswer}
+use Rattle.reading.specs.Calls.{readAnswer}
 use Rattle.text.specs.Text.{Number}
 use Rattle.streams.specs.Input.{Begins}
 

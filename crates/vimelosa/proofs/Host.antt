@@ -10,7 +10,8 @@ use Rattle.rdfs.specs.Register.{Answer, step, Table}
 use Rattle.rdfs.proofs.Steps.{checked-table}
 use Rattle.rdfs.proofs.AfterEach.{after}
 use Rattle.rdfs.proofs.Theorems.{product-sound}
-use Rattle.image.specs.Calls.{readAnswer, readWords, writeAnswer, writeLength, writeBytes}
+use Rattle.writing.specs.Calls.{writeAnswer, writeLength, writeBytes}
+use Rattle.reading.specs.Calls.{readAnswer, readWords}
 use Rattle.image.proofs.Theorems.{read-writes}
 use Rattle.ticket.specs.Answered.{Answered}
 use Rattle.ticket.specs.declared.Applied.{Applied}

@@ -19,9 +19,10 @@ use Rattle.rdfs.proofs.Steps.{step-number, accepted-leaves, room-fits, step-len
 use Rattle.table.proofs.Filled.{filled-within}
 use Rattle.contents.specs.Form.{form}
 use Rattle.contents.specs.Reading.{wordsOf, malformed}
-use Rattle.image.specs.Calls.{tableImage, readAnswer, readWords, writeAnswer, writeLength, writeBytes}
-use Rattle.image.proofs.ReadCall.{read-length}
-use Rattle.image.proofs.WriteCall.{write-taken}
+use Rattle.writing.specs.Calls.{tableImage, writeAnswer, writeLength, writeBytes}
+use Rattle.writing.proofs.WriteCall.{write-taken}
+use Rattle.reading.specs.Calls.{readAnswer, readWords}
+use Rattle.reading.proofs.ReadCall.{read-length}
 use Rattle.vimelosa.specs.Host.{sixteenBits, packed, answerIn, addedIn, removedIn, lengthIn}
 use Rattle.vimelosa.specs.Host.{refusedElse, room, applied, hostAnswer, hostOutput}
 use Rattle.vimelosa.proofs.Host.{refused-is, passed-is, passed-leaves, read-table}

@@ -14,7 +14,8 @@ use Rattle.rdfs.proofs.Steps.{table-passes}
 use Rattle.table.proofs.Filled.{filled-within}
 use Rattle.contents.specs.Form.{form}
 use Rattle.contents.specs.Reading.{wordsOf}
-use Rattle.image.specs.Calls.{tableImage, imageRefusal, readAnswer, readWords, ReadPromise, writeAnswer}
+use Rattle.writing.specs.Calls.{tableImage, writeAnswer}
+use Rattle.reading.specs.Calls.{imageRefusal, readAnswer, readWords, ReadPromise}
 use Rattle.image.proofs.Theorems.{image-reads-back, table-reads-back}
 use Rattle.vimelosa.specs.Host.{answerIn, addedIn, removedIn, lengthIn, room, applied, hostAnswer, HostPromise}
 use Rattle.vimelosa.proofs.Host.{applied-table}

@@ -7,7 +7,8 @@ use lib.Dec.{eqb}
 use lib.ListN.{replicate}
 use Rattle.rdfs.specs.Numbers.{product}
 use Rattle.rdfs.specs.Register.{Answer, step}
-use Rattle.image.specs.Calls.{readAnswer, readWords, writeAnswer, writeLength, writeBytes}
+use Rattle.writing.specs.Calls.{writeAnswer, writeLength, writeBytes}
+use Rattle.reading.specs.Calls.{readAnswer, readWords}
 
 -- The values of a number of 16 bits.
 abbrev pub sixteenBits : ℕ

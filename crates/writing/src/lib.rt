@@ -1,0 +1,58 @@
+// The image of a table, written into lent bytes.
+//
+// The public call is `write`, which crate `image` passes on. It has no `requires`: it says, for all inputs,
+// what it answers and every byte afterwards. `write_checked` serves the crates above: writing without the
+// check. It requires a consistent table. The crate assumes nothing.
+ghost use Rattle.rdfs.specs.Numbers.{product};
+ghost use Rattle.rdfs.specs.Register.{Table};
+ghost use Rattle.writing.specs.Calls.{WritePromise};
+
+mod writer;
+
+use consistency::check;
+use table::Word;
+use table::count_facts;
+use writer::image_length;
+use writer::put_bodies;
+use writer::put_contents;
+
+// What writing answers: 0 or a refusal, and the image's length, 0 on refusal.
+pub struct Written {
+    pub answer: u8,
+    pub length: u16,
+}
+
+// Refusal 13: output shorter than the image.
+pub const SHORT_OUTPUT: u8 = 13;
+
+// Writes the image of a table. The bytes after it are untouched. Refused with 1, 2, 3 or 13, all bytes are as they were.
+pub fn write(t: &[Word], output: &mut [u8]) -> Written
+    ensures { λ r. ⌜ WritePromise (now (t .entry)) (now (output .entry)) r (now (output .exit)) ⌝ }
+{
+    let answer = check(t);
+    if answer != 0 {
+        return Written { answer, length: 0 };
+    }
+    write_checked(t, output)
+}
+
+// The same for a table known to be consistent: only 13 can come.
+pub fn write_checked(t: &[Word], output: &mut [u8]) -> Written
+    requires { ⌜ Table product (now t) ⌝ }
+    ensures { λ r. ⌜ WritePromise (now (t .entry)) (now (output .entry)) r (now (output .exit)) ⌝ }
+{
+    let n = count_facts(t);
+    let length = image_length(t, n);
+    if output.len() < length {
+        return Written {
+            answer: SHORT_OUTPUT,
+            length: 0,
+        };
+    }
+    put_contents(t, n, output);
+    put_bodies(t, n, output);
+    Written {
+        answer: 0,
+        length: length as u16,
+    }
+}
