@@ -69,11 +69,11 @@ abbrev pub recordBytes : List Ticket → List ℕ
 recordBytes tickets = concatMap bytesOf tickets
 
 -- What `apply_list` and `apply_each` promise, for all words w of a table, bytes of a list and answer bytes: they answer r, and
--- leave the words v and the answer bytes out. Demand 3 takes this as a premise, and proofs/Tied says that it is the contract in
--- the source.
+-- leave the words v and the answer bytes out. Demand 3 takes this as a premise, and proofs/Tied of their crates says that it is
+-- the contract in the source.
 abbrev pub ListPromise : (w bytes answers : List ℕ) → Listed → (v out : List ℕ) → Type 0
 ListPromise w bytes answers r v out = ListAnswered r v out (listing w bytes answers)
 
--- What `apply_records` of the crate above promises: the same of its tickets' bytes. Its tie stands there.
+-- What `apply_records` promises: the same of its tickets' bytes.
 abbrev pub RecordsPromise : (w : List ℕ) (tickets : List Ticket) (answers : List ℕ) → Listed → (v out : List ℕ) → Type 0
 RecordsPromise w tickets answers = ListPromise w (recordBytes tickets) answers

@@ -10,6 +10,7 @@ use std::fs::{File, OpenOptions};
 use std::io::{ErrorKind, Read, Seek, Write};
 use std::os::unix::io::OwnedFd;
 use std::os::unix::net::UnixStream;
+use std::os::unix::process::ExitStatusExt;
 use std::path::Path;
 use std::process::{ChildStderr, Stdio};
 use std::thread::{self, JoinHandle};
@@ -58,6 +59,30 @@ fn a_full_device() {
 #[test]
 fn a_file_open_for_reading_only() {
     assert_unwritten(|| File::open(concat!(env!("CARGO_MANIFEST_DIR"), "/Cargo.toml")).expect("a file can be opened"));
+}
+
+/// The signal by which the system ends a program that writes to a pipe which nobody can read any more.
+const NO_READER: i32 = 13;
+
+/// The reader of the pipe is gone before the input comes: the system ends the program at its first write, and what it
+/// prints on standard error is nothing. Sees a program that catches the signal and goes on.
+#[test]
+fn a_reader_who_closes_the_pipe() {
+    let tickets = long_list(&mut Random::for_test("no_reader"), 2 * TICKETS_AT_ONCE + 1).concat();
+    let words = image(&filled(&mut Random::for_test("no_reader_of_facts"), 2_048));
+    for (program, input) in
+        [(Program::one(), &tickets[..]), (Program::one(), &tickets[..0]), (Program::two(), &words[..])]
+    {
+        let mut child = program.start(Stdio::piped(), Stdio::piped());
+        drop(child.stdout.take());
+        let mut pipe = child.stdin.take().expect("the input is a pipe");
+        // A program that has ended takes no more.
+        drop(pipe.write_all(input));
+        drop(pipe);
+        let ended = child.wait_with_output().expect("the program ends");
+        assert_eq!(ended.status.signal(), Some(NO_READER), "with {} bytes", input.len());
+        assert_eq!(ended.stderr, b"", "with {} bytes", input.len());
+    }
 }
 
 /// So many tickets come while nobody reads, and so many later.
