@@ -2,8 +2,8 @@
 // entries and bodies give, and a kind's body as a part of them.
 //
 // The public call is `body`, which crate `image` passes on. It has no `requires`: it says, for all bytes and
-// all numbers, where its part lies and what it holds. The rest serves crates `writing` and `reading`, and has
-// a `requires` where it reads an entry or a body. The crate assumes nothing.
+// all numbers, where its part lies and what it holds. The rest serves crates `writing`, `reading` and
+// `image`, and has a `requires` where it reads an entry or a body. The crate assumes nothing.
 ghost use Rattle.contents.specs.Parts.{BodyPromise};
 
 mod bodies;

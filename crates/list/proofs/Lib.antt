@@ -1,5 +1,5 @@
--- ByteWalk: for run_checked, and the loop of the crate above. Taken, Singles, Demand3: the theorem on a whole list. Tied: the
--- contract in the source is its premise.
+-- ByteWalk: for run_checked and the crates above. Taken, Singles, Demand3: the theorem on a whole list. Tied: the contract in the
+-- source is its premise.
 pub mod ByteWalk
 pub mod Taken
 pub mod Singles

@@ -1,8 +1,9 @@
 // For a program that runs a script: a line read, and a line printed. Names among names, bytes and words in
 // hexadecimal, numbers; runs of bytes and of words compared and copied.
 //
-// The functions print, or serve those that do; they promise what keeps their callers within what is lent.
-// `find_byte` asks for a place within its text. Assumed are the kit's libc functions, for writing.
+// The functions serve the program. Those that answer a place or a length within what is lent promise it; the
+// others promise nothing. `find_byte` asks for a place within its text. Assumed are the kit's libc functions,
+// for writing.
 mod compare;
 mod line;
 mod put;

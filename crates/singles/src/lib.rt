@@ -8,7 +8,7 @@ ghost use Rattle.rdfs.specs.Numbers.{product, recordLength};
 ghost use Rattle.rdfs.specs.Register.{cut, register};
 ghost use Rattle.list_form.specs.Listing.{listing, ListAnswered};
 ghost use Rattle.list_form.specs.Loops.{AllRun};
-pub use list_form::Listed;
+use list_form::Listed;
 use list_form::count_tickets;
 use list_form::find_end;
 use list_form::list_refusal;

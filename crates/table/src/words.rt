@@ -1,9 +1,8 @@
 // The word of a fact: its numbers, taking it apart, making one, which words are facts.
 ghost use mathlib.Core.Path.{_≡_};
 ghost use mathlib.Core.Bool.{cond};
-ghost use Prim.Native.Nat.{ℕ, _<_};
 ghost use lib.Dec.{ltb};
-ghost use Rattle.rdfs.specs.Numbers.{Numbers, product, arity};
+ghost use Rattle.rdfs.specs.Numbers.{product, arity};
 ghost use Rattle.rdfs.specs.Words.{isFact};
 ghost use Rattle.table.specs.Answers.{Decides};
 ghost use Rattle.table.specs.Parts.{kindOf, firstOf, secondOf, thirdOf, wordOf, kindNumbers, Digits, Shaped, Allowed};

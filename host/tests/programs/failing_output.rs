@@ -1,4 +1,5 @@
-//! Output that cannot be written. The programs stop there, and print one line on standard error.
+//! Output that cannot be written. The programs stop there, and print one line on standard error; where the reader of a pipe
+//! is gone the system ends them.
 
 use crate::generator::graphs::{filled, image};
 use crate::generator::long_lists::{long_list, TICKETS_AT_ONCE};

@@ -2,7 +2,6 @@
 -- the places left. Assumes the contract of `libc::read`.
 use Prim.Native.Nat.{_-_, _≤_}
 use mathlib.Core.Path.{_≡_}
-use native.Mathlib.Omega.{arith}
 use lib.ListN.{length}
 use borrow.Author.Needs.{needs}
 use Rattle.streams.proofs.fill.Statement.{statement}

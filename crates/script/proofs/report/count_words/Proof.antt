@@ -1,5 +1,5 @@
 -- `count_words`: the place is within the words, and the measure. Assumes nothing.
-use Prim.Native.Nat.{_-_, _≤_}
+use Prim.Native.Nat.{_≤_}
 use lib.ListN.{length}
 use borrow.Author.Needs.{needs}
 use Rattle.script.proofs.report.count_words.Statement.{statement}
