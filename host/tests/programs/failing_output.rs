@@ -65,8 +65,8 @@ fn a_file_open_for_reading_only() {
 /// The signal by which the system ends a program that writes to a pipe which nobody can read any more.
 const NO_READER: i32 = 13;
 
-/// The reader of the pipe is gone before the input comes: the system ends the program at its first write, and what it
-/// prints on standard error is nothing. Sees a program that catches the signal and goes on.
+/// The reader of the pipe is gone before the input comes: the system ends the program at its first write, and nothing
+/// stands on standard error. It is the system that is seen here, as docs/REVIEW.md has it, and that the program writes.
 #[test]
 fn a_reader_who_closes_the_pipe() {
     let tickets = long_list(&mut Random::for_test("no_reader"), 2 * TICKETS_AT_ONCE + 1).concat();
