@@ -1,7 +1,7 @@
-// Program one: runs tickets, raw bytes from standard input, on a fresh table of 2,048 words. For each it prints
-// answer, added and removed on a line; 1 to 4 bytes left over are a ticket of that length. Last it prints the count
-// of facts. Input may be of any length. If a read or a write fails, a line on standard error says so and nothing
-// more is printed, so that the count is missing.
+// Program one: runs tickets, raw bytes from standard input, on a fresh table of 2,048 words. For each it
+// prints answer, added and removed on a line; 1 to 4 bytes left over are a ticket of that length. Last it
+// prints the count of facts. Input may be of any length. If a read or a write fails, a line on standard error
+// says so and nothing more is printed, so that the count is missing.
 ghost use lib.ListN.{length};
 ghost use Rattle.report.specs.Turns.{Sized, Finishes};
 use report::put_count;
@@ -14,8 +14,8 @@ use table_calls::fresh;
 // How many bytes are read at once: whole tickets, whose lines fit a large buffer.
 const CHUNK: usize = 16000;
 
-// Runs the whole input on a fresh table and prints the count. The answer is the length of the count's line, which
-// stands at the start of out; 0 if a read or a write failed.
+// Runs the whole input on a fresh table and prints the count. The answer is the length of the count's line,
+// which stands at the start of out; 0 if a read or a write failed.
 fn run_program(table: &mut [Word], bytes: &mut [u8], out: &mut [u8]) -> usize
     requires { ⌜ Sized (length (now table)) (length (now bytes)) (length (now out)) ⌝ }
     ensures { λ r. ⌜ Finishes r (length (now (bytes .entry))) (now (table .exit)) (now (out .exit)) ⌝ }

@@ -1,5 +1,5 @@
-// For the benchmark: reads an image from standard input, checks its table again and again, and prints how many of the checks accepted it. For a
-// refused image it prints nothing.
+// For the benchmark: reads an image from standard input, checks its table again and again, and prints how
+// many of the checks accepted it. For a refused image it prints nothing.
 ghost use Prim.Native.Nat.{_≤_};
 use consistency::check;
 use image::LONGEST;
@@ -15,8 +15,8 @@ use table::word_of;
 // How often the table is checked.
 const ROUNDS: u64 = 5000;
 
-// Whether a check accepts the table, as 1 or 0. The first word of a consistent table is stored each time, so that no check can stand for the
-// next.
+// Whether a check accepts the table, as 1 or 0. The first word of a consistent table is stored each time, so
+// that no check can stand for the next.
 fn check_again(t: &mut [Word; MOST]) -> u64
     ensures { λ r. ⌜ r ≤ 1 ⌝ }
 {

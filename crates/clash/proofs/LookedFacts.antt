@@ -18,10 +18,13 @@ use Rattle.table.specs.Counted.{Counted, Id, factsOf}
 use Rattle.clash.specs.Looked.{firstWord}
 
 -- The b of the first of some facts: from its word, and up to the highest id.
-second-first : (l : List Fact) → ((f : Fact) → f ∈ l → Allowed (product .top) f) → (secondOf (firstWord l) ≡ firstB l) × Id (firstB l)
+second-first : (l : List Fact) → ((f : Fact) → f ∈ l → Allowed (product .top) f) → (secondOf (firstWord l) ≡ firstB l)
+    × Id (firstB l)
 second-first [] h = (refl, omega arith)
 second-first (f ∷ l) h = let b = fields (product .top) f (h f (here refl)) in (omega (arith, b .one, b .two, b .three), b .two)
 
-pub first-b-of : (t : List ℕ) (n k p : ℕ) → Counted t n → (secondOf (firstWord (withA (factsOf t) k p)) ≡ firstB (withA (factsOf t) k p)) × Id (firstB (withA (factsOf t) k p))
+pub first-b-of : (t : List ℕ) (n k p : ℕ) → Counted t n
+    → (secondOf (firstWord (withA (factsOf t) k p)) ≡ firstB (withA (factsOf t) k p)) × Id (firstB (withA (factsOf t) k p))
 first-b-of t n k p q =
-    second-first (withA (factsOf t) k p) (λ f m. laid-allowed product t (q .laid) f (in-filter (λ g. eqb (kind g) k && eqb (first g) p) (factsOf t) m .0))
+    second-first (withA (factsOf t) k p) (λ f m. laid-allowed product t (q .laid) f
+    (in-filter (λ g. eqb (kind g) k && eqb (first g) p) (factsOf t) m .0))

@@ -1,4 +1,5 @@
-// Lookups in a table that is laid out: whether a fact is there, the first fact of a kind with an id, the roles of an id, links.
+// Lookups in a table that is laid out: whether a fact is there, the first fact of a kind with an id, the
+// roles of an id, links.
 ghost use mathlib.Core.Path.{_≡_};
 ghost use mathlib.Core.Bool.{not, _&&_};
 ghost use Prim.Native.Nat.{_<_};
@@ -23,7 +24,8 @@ use table::has_fact;
 use table::second_of;
 use table::word_of;
 
-// The word of the first fact of kind k with p as a, or 0. These words are the next BASE × BASE from the least on.
+// The word of the first fact of kind k with p as a, or 0. These words are the next BASE × BASE from the least
+// on.
 pub fn first_with(t: &[Word], n: usize, k: Word, p: Word) -> Word
     requires { ⌜ Counted (now t) n × (k < 16) × (p < product .base) ⌝ }
     ensures { λ r. ⌜ r ≡ firstWord (withA (factsOf (now (t .entry))) k p) ⌝ }

@@ -7,7 +7,19 @@ ghost use Rattle.rdfs.specs.Lists.{all};
 ghost use Rattle.rdfs.specs.Facts.{has};
 ghost use Rattle.rdfs.specs.Clashes.{mixed};
 ghost use Rattle.rdfs.specs.Tickets.{asked, ticketOf};
-ghost use Rattle.rdfs.specs.Lookups.{otherRole, propertyClash, classLinkClash, propertyLinkClash, memberClash, valueClash, lookupClash, endsClash, newPropertyClash, noLink, noValue};
+ghost use Rattle.rdfs.specs.Lookups.{
+  otherRole,
+  propertyClash,
+  classLinkClash,
+  propertyLinkClash,
+  memberClash,
+  valueClash,
+  lookupClash,
+  endsClash,
+  newPropertyClash,
+  noLink,
+  noValue,
+};
 ghost use Rattle.table.specs.Counted.{Counted, Id, factsOf};
 use crate::lookups::closes_cycle;
 use crate::lookups::first_b;
@@ -41,7 +53,8 @@ fn is_mixed(z: Word, w: Word) -> bool
     w == MARK
 }
 
-// A property with domain x and range z cannot be put under one with domain y and range w: H4, or 19 by what 22 and 23 need.
+// A property with domain x and range z cannot be put under one with domain y and range w: H4, or 19 by what
+// 22 and 23 need.
 fn ends_clash(t: &[Word], n: usize, x: Word, y: Word, z: Word, w: Word) -> bool
     requires { ⌜ Counted (now t) n × Id x × Id y × Id z × Id w ⌝ }
     ensures { λ r. ⌜ r ≡ endsClash (factsOf (now (t .entry))) x y z w ⌝ }
@@ -159,7 +172,8 @@ fn class_link_clashes(t: &[Word], n: usize, a: Word, b: Word) -> bool
     is_no_link(t, n, a, b)
 }
 
-// PSub(a,b) clashes: a cycle, the mark against a class, or class links that its domains and ranges need by 22 and 23.
+// PSub(a,b) clashes: a cycle, the mark against a class, or class links that its domains and ranges need by 22
+// and 23.
 fn property_link_clashes(t: &[Word], n: usize, a: Word, b: Word) -> bool
     requires { ⌜ Counted (now t) n × Id a × Id b ⌝ }
     ensures { λ r. ⌜ r ≡ propertyLinkClash (factsOf (now (t .entry))) a b ⌝ }
@@ -194,7 +208,8 @@ fn member_clashes(t: &[Word], n: usize, a: Word, b: Word) -> bool
     a == b
 }
 
-// b cannot be the value of a for property c: with the mark as range it is to be a literal, else an individual.
+// b cannot be the value of a for property c: with the mark as range it is to be a literal, else an
+// individual.
 fn is_no_value(t: &[Word], n: usize, a: Word, b: Word, c: Word) -> bool
     requires { ⌜ Counted (now t) n × Id b × Id c ⌝ }
     ensures { λ r. ⌜ r ≡ noValue (factsOf (now (t .entry))) a b c ⌝ }
@@ -222,8 +237,9 @@ fn value_clashes(t: &[Word], n: usize, a: Word, b: Word, c: Word) -> bool
     is_no_value(t, n, a, b, c)
 }
 
-// The clash by lookups of an insertion of kind k: on a consistent table, past refusal 9, it is refusal 10, that no consistent graph holds the
-// table and the asked facts. A class, an individual or a literal clashes if it has another role.
+// The clash by lookups of an insertion of kind k: on a consistent table, past refusal 9, it is refusal 10,
+// that no consistent graph holds the table and the asked facts. A class, an individual or a literal clashes
+// if it has another role.
 pub fn clashes(t: &[Word], n: usize, k: Word, a: Word, b: Word, c: Word) -> bool
     requires { ⌜ Counted (now t) n × Id a × Id b × Id c ⌝ }
     ensures { λ r. ⌜ r ≡ lookupClash (factsOf (now (t .entry))) (ticketOf 1 k a b c) ⌝ }

@@ -16,8 +16,8 @@ use Rattle.rdfs.proofs.LaidOut.{laid-is-fact, laid-ascending, laid-allowed, lai
 use Rattle.rdfs.proofs.Allowed.{fields}
 use Rattle.table.proofs.Parts.{tests-fact}
 use Rattle.table.proofs.Filled.{at-in, counted-filled, counted-ascending}
-use Rattle.runs.specs.Runs.{at, FactWord, FactWords}
-use Rattle.runs.specs.Graphs.{graphOf}
+use Rattle.spans.specs.Spans.{at, FactWord, FactWords}
+use Rattle.spans.specs.Graphs.{graphOf}
 use Rattle.consistency.proofs.Listed.{in-has, has-in, ascending-rises}
 
 module _ (w : List ℕ) (t : T (laidOut product 1 w)) where
@@ -31,14 +31,19 @@ module _ (w : List ℕ) (t : T (laidOut product 1 w)) where
       of-parts x h = let p = tests-fact x _ _ _ _ refl refl refl refl .sound h in record { shaped = p .0; allowed = p .1 }
 
   -- The first words, as many as there are facts.
-  pub counted-words : (n : ℕ) → n ≡ length (filled w) → length w ≤ product .most → FactWords (take n w) × (length (take n w) ≤ product .most)
+  pub counted-words : (n : ℕ) → n ≡ length (filled w) → length w ≤ product .most → FactWords (take n w)
+      × (length (take n w) ≤ product .most)
   counted-words n e h =
       let within : n ≤ length w = counted-ascending product w t n e .0 in
       (subst FactWords (sym (counted-filled product w t n e)) filled-words, omega (arith, length-take-le n w within))
 
   pub filled-within : _⊑_ (graphOf (filled w)) (graph (facts product w))
   filled-within f ((a, b, c), h) =
-      subst (λ g. g ∈ facts product w) (fact-word (product .base) f (record { one = omega arith; two = omega arith; three = omega arith }))
+      subst (λ g. g ∈ facts product w) (fact-word (product .base) f (record {
+        one = omega arith;
+        two = omega arith;
+        three = omega arith;
+      }))
       (map-in (fact (product .base)) {l = filled w} (has-in h))
 
   pub facts-within : _⊑_ (graph (facts product w)) (graphOf (filled w))

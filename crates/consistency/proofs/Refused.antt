@@ -16,7 +16,7 @@ use Rattle.rdfs.specs.Register.{orElse, badSize, badLayout, inconsistent, layou
 use Rattle.rdfs.proofs.Decision.{check-sound, check-complete}
 use Rattle.table.proofs.Answers.{is-true, is-false}
 use Rattle.table.proofs.Sizes.{tests-size}
-use Rattle.table.proofs.Refusals.{taken-laid}
+use Rattle.table.proofs.TableRefusals.{taken-laid}
 use Rattle.rules.specs.RuleOf.{ruleOf}
 use Rattle.consistency.specs.declared.Visited.{Visited}
 use Rattle.consistency.specs.declared.Visited.the-variants.{AllMet, Broken}
@@ -24,7 +24,8 @@ use Rattle.consistency.specs.Order.{rulesInOrder, MeetsAll, Answers, num
 use Rattle.consistency.proofs.Visiting.{all-consistent, consistent-all, broken-not}
 
 -- Refusals 1 and 2 come first.
-first-two : (size layout : Bool) (rest a : ℕ) → a ≡ orElse size 1 (orElse layout 2 0) → (a ≡ 0 → ⊥) → a ≡ orElse size 1 (orElse layout 2 rest)
+first-two : (size layout : Bool) (rest a : ℕ) → a ≡ orElse size 1 (orElse layout 2 0) → (a ≡ 0 → ⊥)
+    → a ≡ orElse size 1 (orElse layout 2 rest)
 first-two true layout rest a e n = e
 first-two false true rest a e n = e
 first-two false false rest a e n = absurd (n e)
@@ -62,7 +63,8 @@ module _ (w : List ℕ) (a : ℕ) (e : a ≡ layoutRefusal product w 0) where
     ]
 
     by-rules : (b : Bool) → inconsistent product w ≡ b → orElse b 3 0 ≡ tableRefusal product w 0
-    by-rules b q = sym (past-two (badSize product w) (badLayout product w) (orElse (inconsistent product w) 3 0) none ∙ ap (λ i. orElse i 3 0) q)
+    by-rules b q = sym (past-two (badSize product w) (badLayout product w) (orElse (inconsistent product w) 3 0) none
+        ∙ ap (λ i. orElse i 3 0) q)
 
     pub past-number : (v : Visited) → Answers (graph (facts product w)) rulesInOrder v → numberOf v ≡ tableRefusal product w 0
     past-number AllMet m =

@@ -1,5 +1,5 @@
--- The visit of a list of rules: the rules before a place are met. How that goes on, what it says at a broken rule and at the list's end, and
--- what the rule at the place relies on. All rules in order are consistency. Assumes nothing.
+-- The visit of a list of rules: the rules before a place are met. How that goes on, what it says at a broken rule and at the
+-- list's end, and what the rule at the place relies on. All rules in order are consistency. Assumes nothing.
 use Prim.Native.Nat.{ℕ, zero, suc, _+_, _≤_, _<_}
 use mathlib.Core.Path.{sym, subst}
 use mathlib.Core.Logic.{⊎-elim}
@@ -11,7 +11,7 @@ use lib.ListN.{length}
 use Rattle.rdfs.specs.Facts.{Graph}
 use Rattle.rdfs.specs.Rules.{Rule, Meets}
 use Rattle.rdfs.specs.Consistency.{Consistent}
-use Rattle.runs.specs.Earlier.{Earlier}
+use Rattle.spans.specs.Earlier.{Earlier}
 use Rattle.consistency.specs.Order.{rulesInOrder, ruleAt, MeetsAll, none, also, FirstBroken, here, later}
 
 -- Each rule before place i is met.
@@ -42,7 +42,8 @@ module _ (G : Graph) where
   pub visit-more : (l : List Rule) (i : ℕ) → MetBefore G l i → Meets G (ruleAt l i) → MetBefore G l (i + 1)
   visit-more l i p m j h = ⊎-elim (λ e. subst (λ k. Meets G (ruleAt l k)) (sym e) m) (p j) (eq-or-lt-of-le (omega arith))
 
-  pub visit-stops : (l : List Rule) (i : ℕ) → i < length l → MetBefore G l i → (Meets G (ruleAt l i) → ⊥) → FirstBroken G (ruleAt l i) l
+  pub visit-stops : (l : List Rule) (i : ℕ) → i < length l → MetBefore G l i → (Meets G (ruleAt l i) → ⊥)
+      → FirstBroken G (ruleAt l i) l
   visit-stops [] i h p n = absurd (omega arith)
   visit-stops (r ∷ l) zero h p n = here n
   visit-stops (r ∷ l) (suc i) h p n = later (p 0 (omega arith)) (visit-stops l i (omega arith) (λ j k. p (suc j) (omega arith)) n)

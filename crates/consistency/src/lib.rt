@@ -2,12 +2,13 @@
 //
 // The public call is `check`. It has no `requires`: it says, for all inputs, what it answers; it writes
 // nothing. `first_broken` serves the crates above, and names the rule on a table that is laid out. The crate
-// assumes nothing. A call takes the stack of the index and of a run's marks, and some hundred bytes.
+// assumes nothing. A call takes the stack of the index and of a span's stamps, and some hundred bytes.
 mod visit;
 
 pub use rules::Rule;
-use runs::RUNS;
-use runs::fill_index;
+use spans::SPANS;
+use spans::fill_index;
+use table::INCONSISTENT;
 use table::Word;
 use table::count_facts;
 use table::layout_refusal;
@@ -21,9 +22,6 @@ ghost use Rattle.rdfs.specs.Facts.{graph};
 ghost use Rattle.rdfs.specs.Words.{laidOut, facts};
 ghost use Rattle.rdfs.specs.Register.{tableRefusal};
 ghost use Rattle.consistency.specs.Order.{rulesInOrder, Answers, numberOf};
-
-// Refusal 3: a table not consistent.
-pub const INCONSISTENT: u8 = 3;
 
 // What a visit of some rules, one after another, finds.
 pub enum Visited {
@@ -40,7 +38,7 @@ pub fn first_broken(t: &[Word]) -> Visited
 {
     let n = count_facts(t);
     let words = &t[..n];
-    let mut s = [0u16; RUNS];
+    let mut s = [0u16; SPANS];
     fill_index(words, &mut s);
     visit(words, &s)
 }

@@ -1,4 +1,5 @@
-// The visit of the rules one by one, in the order of Fig. 3, then H1 to H4. It gets past each exactly if it is met.
+// The visit of the rules one by one, in the order of Fig. 3, then H1 to H4. It gets past each exactly if it
+// is met.
 use crate::Visited;
 use rules::Rule;
 use rules::meets;
@@ -6,8 +7,8 @@ use table::Word;
 ghost use mathlib.Core.Path.{_≡_};
 ghost use Prim.Native.Nat.{_<_};
 ghost use lib.ListN.{length};
-ghost use Rattle.runs.specs.Runs.{Indexed};
-ghost use Rattle.runs.specs.Graphs.{graphOf};
+ghost use Rattle.spans.specs.Spans.{Indexed};
+ghost use Rattle.spans.specs.Graphs.{graphOf};
 ghost use Rattle.rules.specs.RuleOf.{ruleOf};
 ghost use Rattle.consistency.specs.Order.{ruleAt, rulesInOrder, Answers};
 

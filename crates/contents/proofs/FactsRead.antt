@@ -29,37 +29,48 @@ is-kind zero h l = absurd (omega arith)
 is-kind (suc zero) h l = record { of-kind = λ a b c. refl; has-ids = λ a b c. refl; some = lit≤ tt; few = lit≤ tt }
 is-kind (suc (suc zero)) h l = record { of-kind = λ a b c. refl; has-ids = λ a b c. refl; some = lit≤ tt; few = lit≤ tt }
 is-kind (suc (suc (suc zero))) h l = record { of-kind = λ a b c. refl; has-ids = λ a b c. refl; some = lit≤ tt; few = lit≤ tt }
-is-kind (suc (suc (suc (suc zero)))) h l = record { of-kind = λ a b c. refl; has-ids = λ a b c. refl; some = lit≤ tt; few = lit≤ tt }
-is-kind (suc (suc (suc (suc (suc zero))))) h l = record { of-kind = λ a b c. refl; has-ids = λ a b c. refl; some = lit≤ tt; few = lit≤ tt }
-is-kind (suc (suc (suc (suc (suc (suc zero)))))) h l = record { of-kind = λ a b c. refl; has-ids = λ a b c. refl; some = lit≤ tt; few = lit≤ tt }
-is-kind (suc (suc (suc (suc (suc (suc (suc zero))))))) h l = record { of-kind = λ a b c. refl; has-ids = λ a b c. refl; some = lit≤ tt; few = lit≤ tt }
-is-kind (suc (suc (suc (suc (suc (suc (suc (suc zero)))))))) h l = record { of-kind = λ a b c. refl; has-ids = λ a b c. refl; some = lit≤ tt; few = lit≤ tt }
-is-kind (suc (suc (suc (suc (suc (suc (suc (suc (suc zero))))))))) h l = record { of-kind = λ a b c. refl; has-ids = λ a b c. refl; some = lit≤ tt; few = lit≤ tt }
-is-kind (suc (suc (suc (suc (suc (suc (suc (suc (suc (suc zero)))))))))) h l = record { of-kind = λ a b c. refl; has-ids = λ a b c. refl; some = lit≤ tt; few = lit≤ tt }
+is-kind (suc (suc (suc (suc zero)))) h l =
+    record { of-kind = λ a b c. refl; has-ids = λ a b c. refl; some = lit≤ tt; few = lit≤ tt }
+is-kind (suc (suc (suc (suc (suc zero))))) h l =
+    record { of-kind = λ a b c. refl; has-ids = λ a b c. refl; some = lit≤ tt; few = lit≤ tt }
+is-kind (suc (suc (suc (suc (suc (suc zero)))))) h l =
+    record { of-kind = λ a b c. refl; has-ids = λ a b c. refl; some = lit≤ tt; few = lit≤ tt }
+is-kind (suc (suc (suc (suc (suc (suc (suc zero))))))) h l =
+    record { of-kind = λ a b c. refl; has-ids = λ a b c. refl; some = lit≤ tt; few = lit≤ tt }
+is-kind (suc (suc (suc (suc (suc (suc (suc (suc zero)))))))) h l =
+    record { of-kind = λ a b c. refl; has-ids = λ a b c. refl; some = lit≤ tt; few = lit≤ tt }
+is-kind (suc (suc (suc (suc (suc (suc (suc (suc (suc zero))))))))) h l =
+    record { of-kind = λ a b c. refl; has-ids = λ a b c. refl; some = lit≤ tt; few = lit≤ tt }
+is-kind (suc (suc (suc (suc (suc (suc (suc (suc (suc (suc zero)))))))))) h l =
+    record { of-kind = λ a b c. refl; has-ids = λ a b c. refl; some = lit≤ tt; few = lit≤ tt }
 is-kind (suc (suc (suc (suc (suc (suc (suc (suc (suc (suc (suc k))))))))))) h l = absurd (omega arith)
 
 pub fact-kind : (f : Fact) → (1 ≤ kind f) × (kind f ≤ 10)
 fact-kind f = let s = parts-shaped f in (s .some, s .most)
 
 -- The ids that a kind has no use for do not matter.
-pub made-again : {k : ℕ} → IsKind k → (a b c : ℕ) → let l : List ℕ = take (arity k) (a ∷ b ∷ c ∷ []) in made k a b c ≡ made k (getD l 0 0) (getD l 1 0) (getD l 2 0)
+pub made-again : {k : ℕ} → IsKind k → (a b c : ℕ) → let l : List ℕ = take (arity k) (a ∷ b ∷ c ∷ []) in
+    made k a b c ≡ made k (getD l 0 0) (getD l 1 0) (getD l 2 0)
 made-again {k} i a b c =
     let f : Fact = made k a b c in
     sym (made-of f) ∙ (ap (λ n. made n (first f) (second f) (third f)) (i .of-kind a b c)
     ∙ ap (λ l. made k (getD l 0 0) (getD l 1 0) (getD l 2 0)) (i .has-ids a b c))
 
 -- The word of what is made of a kind and ids, by the ids that it has.
-pub word-made : {k : ℕ} → IsKind k → (B a b c : ℕ) → let l : List ℕ = take (arity k) (a ∷ b ∷ c ∷ []) in word B (made k a b c) ≡ ((k * B + getD l 0 0) * B + getD l 1 0) * B + getD l 2 0
+pub word-made : {k : ℕ} → IsKind k → (B a b c : ℕ) → let l : List ℕ = take (arity k) (a ∷ b ∷ c ∷ []) in
+    word B (made k a b c) ≡ ((k * B + getD l 0 0) * B + getD l 1 0) * B + getD l 2 0
 word-made {k} i B a b c =
     let f : Fact = made k a b c in
-    ap (λ n. ((n * B + first f) * B + second f) * B + third f) (i .of-kind a b c) ∙ ap (λ l. ((k * B + getD l 0 0) * B + getD l 1 0) * B + getD l 2 0) (i .has-ids a b c)
+    ap (λ n. ((n * B + first f) * B + second f) * B + third f) (i .of-kind a b c)
+    ∙ ap (λ l. ((k * B + getD l 0 0) * B + getD l 1 0) * B + getD l 2 0) (i .has-ids a b c)
 
 pub ids-count : (f : Fact) → length (ids f) ≡ arity (kind f)
 ids-count f = sym (arity-is f)
 
 module _ (F : Form) (proper : Proper F) (bytes : List ℕ) where
   -- The ids at a place, as many as are wanted.
-  ids-at : (p n : ℕ) → n ≤ 3 → take n (idAt F bytes p 0 ∷ idAt F bytes p 1 ∷ idAt F bytes p 2 ∷ []) ≡ numbersFrom (F .idSize) bytes p n
+  ids-at : (p n : ℕ) → n ≤ 3 → take n (idAt F bytes p 0 ∷ idAt F bytes p 1 ∷ idAt F bytes p 2 ∷ []) ≡ numbersFrom (F .idSize)
+      bytes p n
   ids-at p n h =
       let s : ℕ = F .idSize in
       let a : p + 0 * s ≡ p = omega arith in
@@ -80,17 +91,22 @@ module _ (F : Form) (proper : Proper F) (bytes : List ℕ) where
       let k : ℕ = kind f in
       let i : IsKind k = is-kind k (fact-kind f .0) (fact-kind f .1) in
       let same : take (arity k) (idAt F bytes p 0 ∷ idAt F bytes p 1 ∷ idAt F bytes p 2 ∷ []) ≡ ids f =
-      ids-at p (arity k) (i .few) ∙ (ap (numbersFrom (F .idSize) bytes p) (sym (ids-count f)) ∙ numbers-read (F .idSize) (proper .id) bytes (ids f) rest p e) in
-      made-again i (idAt F bytes p 0) (idAt F bytes p 1) (idAt F bytes p 2) ∙ (ap (λ l. made k (getD l 0 0) (getD l 1 0) (getD l 2 0)) same ∙ made-of f)
+      ids-at p (arity k) (i .few) ∙ (ap (numbersFrom (F .idSize) bytes p) (sym (ids-count f))
+      ∙ numbers-read (F .idSize) (proper .id) bytes (ids f) rest p e) in
+      made-again i (idAt F bytes p 0) (idAt F bytes p 1) (idAt F bytes p 2)
+      ∙ (ap (λ l. made k (getD l 0 0) (getD l 1 0) (getD l 2 0)) same ∙ made-of f)
 
   pub fact-written : AllBytes bytes → (k p : ℕ) → IsKind k → p + factSize F k ≤ length bytes
-      → concatMap (inBytes (F .idSize)) (ids (made k (idAt F bytes p 0) (idAt F bytes p 1) (idAt F bytes p 2))) ≡ take (factSize F k) (drop p bytes)
+      → concatMap (inBytes (F .idSize)) (ids (made k (idAt F bytes p 0) (idAt F bytes p 1) (idAt F bytes p 2)))
+      ≡ take (factSize F k) (drop p bytes)
   fact-written b k p i h =
-      ap (concatMap (inBytes (F .idSize))) (i .has-ids (idAt F bytes p 0) (idAt F bytes p 1) (idAt F bytes p 2) ∙ ids-at p (arity k) (i .few))
+      ap (concatMap (inBytes (F .idSize))) (i .has-ids (idAt F bytes p 0) (idAt F bytes p 1) (idAt F bytes p 2)
+      ∙ ids-at p (arity k) (i .few))
       ∙ numbers-written (F .idSize) (proper .id) bytes b (arity k) p h
 
   -- What is made of ids of the form has ids below a base that the form's ids do not reach.
-  pub fact-below : AllBytes bytes → (B k p : ℕ) → 256 ^ F .idSize ≤ B → IsKind k → Below B (made k (idAt F bytes p 0) (idAt F bytes p 1) (idAt F bytes p 2))
+  pub fact-below : AllBytes bytes → (B k p : ℕ) → 256 ^ F .idSize ≤ B → IsKind k
+      → Below B (made k (idAt F bytes p 0) (idAt F bytes p 1) (idAt F bytes p 2))
   fact-below b B k p h i =
       let id : ℕ → ℕ = idAt F bytes p in
       let bound : (n : ℕ) → id n < B = λ n. omega (arith, h, number-bound (F .idSize) (proper .id) bytes b (p + n * F .idSize)) in

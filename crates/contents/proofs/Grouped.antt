@@ -23,11 +23,15 @@ use Rattle.contents.specs.Image.{factKind, ofKind}
 
 pub kinds-from : (j n k : ℕ) → k ∈ kindsAfter j n → (j < k) × (k ≤ j + n)
 kinds-from j zero k h = absurd (none-in h)
-kinds-from j (suc n) k h = ⊎-elim (λ e. (omega arith, omega arith)) (λ i. let r = kinds-from (suc j) n k i in (omega (arith, r .0), omega (arith, r .1))) (in-cons h)
+kinds-from j (suc n) k h = ⊎-elim (λ e. (omega arith, omega arith)) (λ i. let r = kinds-from (suc j) n k i in
+    (omega (arith, r .0), omega (arith, r .1))) (in-cons h)
 
 pub kinds-has : (j n k : ℕ) → j < k → k ≤ j + n → k ∈ kindsAfter j n
 kinds-has j zero k h l = absurd (omega arith)
-kinds-has j (suc n) k h l = elim (decLt (suc j) k) [ yes q ↦ there (kinds-has (suc j) n k q (omega arith)) | no q ↦ let e : k ≡ suc j = omega (arith, q) in here e ]
+kinds-has j (suc n) k h l = elim (decLt (suc j) k) [
+  | yes q ↦ there (kinds-has (suc j) n k q (omega arith))
+  | no q ↦ let e : k ≡ suc j = omega (arith, q) in here e
+]
 
 module _ (N : Numbers) where
   -- A word of kind k, or of another, before the words of kind k.
@@ -39,10 +43,12 @@ module _ (N : Numbers) where
 
   module _ (w : ℕ) (l : List ℕ) where
     -- Kinds above the word's own do not have it.
-    group-past : (j n : ℕ) → factKind N w ≤ j → concatMap (λ k. ofKind N k (w ∷ l)) (kindsAfter j n) ≡ concatMap (λ k. ofKind N k l) (kindsAfter j n)
+    group-past : (j n : ℕ) → factKind N w ≤ j → concatMap (λ k. ofKind N k (w ∷ l)) (kindsAfter j n) ≡ concatMap
+        (λ k. ofKind N k l) (kindsAfter j n)
     group-past j zero h = refl
     group-past j (suc n) h =
-        ap (λ a. a ++ concatMap (λ k. ofKind N k (w ∷ l)) (kindsAfter (suc j) n)) (kind-skip (suc j) w l (λ e. omega (arith, e, h)))
+        ap (λ a. a ++ concatMap (λ k. ofKind N k (w ∷ l)) (kindsAfter (suc j) n))
+        (kind-skip (suc j) w l (λ e. omega (arith, e, h)))
         ∙ ap (λ a. ofKind N (suc j) l ++ a) (group-past (suc j) n (omega arith))
 
     group-more : (j n : ℕ) → j < factKind N w → factKind N w ≤ j + n → ((x : ℕ) → x ∈ l → factKind N w ≤ factKind N x)
@@ -50,9 +56,18 @@ module _ (N : Numbers) where
     group-more j zero h m up = absurd (omega arith)
     group-more j (suc n) h m up = elim (decLt (suc j) (factKind N w)) [
       | yes q ↦
-          let none : ofKind N (suc j) l ≡ [] = filter-none (λ x. eqb (factKind N x) (suc j)) l (λ x i t. omega (arith, q, up x i, eqb→eq (factKind N x) (suc j) t)) in
-          ap (λ a. a ++ concatMap (λ k. ofKind N k (w ∷ l)) (kindsAfter (suc j) n)) (kind-skip (suc j) w l (λ e. omega (arith, e, q)) ∙ none)
-          ∙ (group-more (suc j) n q (omega arith) up ∙ ap (λ a. w ∷ (a ++ concatMap (λ k. ofKind N k l) (kindsAfter (suc j) n))) (sym none))
+          let none : ofKind N (suc j) l ≡ [] =
+          filter-none (λ x. eqb (factKind N x) (suc j)) l (λ x i t. omega (
+            arith,
+            q,
+            up x i,
+            eqb→eq (factKind N x) (suc j)
+                t,
+          )) in
+          ap (λ a. a ++ concatMap (λ k. ofKind N k (w ∷ l)) (kindsAfter (suc j) n))
+          (kind-skip (suc j) w l (λ e. omega (arith, e, q)) ∙ none)
+          ∙ (group-more (suc j) n q (omega arith) up ∙ ap (λ a. w ∷ (a ++ concatMap (λ k. ofKind N k l) (kindsAfter (suc j) n)))
+          (sym none))
       | no q ↦
           ap (λ a. a ++ concatMap (λ k. ofKind N k (w ∷ l)) (kindsAfter (suc j) n)) (kind-more (suc j) w l (omega (arith, q)))
           ∙ ap (λ a. w ∷ (ofKind N (suc j) l ++ a)) (group-past (suc j) n (omega (arith, q)))
@@ -60,15 +75,24 @@ module _ (N : Numbers) where
 
   module _ (s : Sound N) where
     below-next : (B : ℕ) (f : Fact) → Below B f → word B f < suc (kind f) * B * B * B
-    below-next B f b = digit-bound B _ (third f) _ (digit-bound B _ (second f) _ (digit-bound B (kind f) (first f) (suc (kind f)) (omega arith) (b .one)) (b .two)) (b .three)
+    below-next B f b = digit-bound B _ (third f) _ (digit-bound B _ (second f) _ (digit-bound B (kind f) (first f) (suc (kind f))
+        (omega arith) (b .one)) (b .two)) (b .three)
 
-    pub word-within : (w : ℕ) → T (isFact N w) → (factKind N w * N .base * N .base * N .base ≤ w) × (w < suc (factKind N w) * N .base * N .base * N .base)
+    pub word-within : (w : ℕ) → T (isFact N w) → (factKind N w * N .base * N .base * N .base ≤ w)
+        × (w < suc (factKind N w) * N .base * N .base * N .base)
     word-within w t =
         let f : Fact = fact (N .base) w in
         let b : Below (N .base) f = allowed-below N s f (fact-allowed N w t) in
         let says : word (N .base) f ≡ w = fact-says N w t in
-        let B : ℕ = N .base in
-        (omega (arith, says, mul-le-mul-right B (mul-le-mul-right B (from (kind f * B) (first f))), mul-le-mul-right B (from ((kind f * B + first f) * B) (second f))), omega (arith, says, below-next (N .base) f b))
+        let B : ℕ = N .base in (
+          omega (
+            arith,
+            says,
+            mul-le-mul-right B (mul-le-mul-right B (from (kind f * B) (first f))),
+            mul-le-mul-right B (from ((kind f * B + first f) * B) (second f)),
+          ),
+          omega (arith, says, below-next (N .base) f b),
+        )
       where
         from : (x y : ℕ) → x ≤ x + y
         from x y = omega arith
@@ -78,12 +102,14 @@ module _ (N : Numbers) where
     kinds-up v w s t h = elim (decLt (factKind N w) (factKind N v)) [
       | yes q ↦
           let B : ℕ = N .base in
-          let up : suc (factKind N w) * B * B * B ≤ factKind N v * B * B * B = mul-le-mul-right B (mul-le-mul-right B (mul-le-mul-right B q)) in
+          let up : suc (factKind N w) * B * B * B ≤ factKind N v * B * B * B =
+          mul-le-mul-right B (mul-le-mul-right B (mul-le-mul-right B q)) in
           absurd (omega (arith, up, word-within v s .0, word-within w t .1, h))
       | no q ↦ omega (arith, q)
     ]
 
-    pub grouped : (n : ℕ) (l : List ℕ) → Ascending l → ((w : ℕ) → w ∈ l → T (isFact N w) × (factKind N w ≤ n) × (0 < factKind N w)) → concatMap (λ k. ofKind N k l) (kindsAfter 0 n) ≡ l
+    pub grouped : (n : ℕ) (l : List ℕ) → Ascending l → ((w : ℕ) → w ∈ l → T (isFact N w) × (factKind N w ≤ n)
+        × (0 < factKind N w)) → concatMap (λ k. ofKind N k l) (kindsAfter 0 n) ≡ l
     grouped n [] a h = none 0 n
       where
         none : (j n : ℕ) → concatMap (λ k. ofKind N k []) (kindsAfter j n) ≡ []

@@ -51,21 +51,29 @@ module _ (bytes : List ℕ) (k : ℕ) where
       record { here = here; some = b .0; most = b .1; right = well-contents bytes (both .0) }
 
   -- Its size by its parts, and its end within the bytes.
-  pub there-size : (size count : ℕ) → size ≡ factSize form k → count ≡ countAt form bytes k → size * count ≡ factSize form k * countAt form bytes k
+  pub there-size : (size count : ℕ) → size ≡ factSize form k → count ≡ countAt form bytes k
+      → size * count ≡ factSize form k * countAt form bytes k
   there-size size count e d = ap (λ n. n * count) e ∙ ap (λ n. factSize form k * n) d
 
-  pub there-within : There → (start size count : ℕ) → start ≡ startAt form bytes k → size ≡ factSize form k → count ≡ countAt form bytes k → start + size * count ≤ length bytes
-  there-within h start size count s e d = subst (λ n. start + n * count ≤ length bytes) (sym e) (body-placed form bytes (h .right) k start count (h .some) (h .most) s d)
+  pub there-within : There → (start size count : ℕ) → start ≡ startAt form bytes k → size ≡ factSize form k
+      → count ≡ countAt form bytes k → start + size * count ≤ length bytes
+  there-within h start size count s e d =
+      subst (λ n. start + n * count ≤ length bytes) (sym e) (body-placed form bytes (h .right) k start count (h .some) (h .most) s
+      d)
 
   pub gone : (r : Bool) → r ≡ not (bodiless product form bytes k) → not r ≡ true → bodiless product form bytes k ≡ true
   gone r e f = not-false (bodiless product form bytes k) (sym e ∙ not-true r f)
 
   module _ (whole part : RefT (List ℕ)) where
-    pub part-none : bodiless product form bytes k ≡ true → IsPart whole part (length bytes) 0 → IsPart whole part (bodyStart product form bytes k) (bodySize product form bytes k)
-    part-none e h = subst (λ b. IsPart whole part (cond b (length bytes) (startAt form bytes k)) (cond b 0 (factSize form k * countAt form bytes k))) (sym e) h
+    pub part-none : bodiless product form bytes k ≡ true → IsPart whole part (length bytes) 0
+        → IsPart whole part (bodyStart product form bytes k) (bodySize product form bytes k)
+    part-none e h = subst (λ b. IsPart whole part (cond b (length bytes) (startAt form bytes k))
+        (cond b 0 (factSize form k * countAt form bytes k))) (sym e) h
 
-    pub part-some : bodiless product form bytes k ≡ false → (start size : ℕ) → start ≡ startAt form bytes k → size ≡ factSize form k * countAt form bytes k
+    pub part-some : bodiless product form bytes k ≡ false → (start size : ℕ) → start ≡ startAt form bytes k
+        → size ≡ factSize form k * countAt form bytes k
         → IsPart whole part start size → IsPart whole part (bodyStart product form bytes k) (bodySize product form bytes k)
     part-some e start size s z h =
-        subst (λ b. IsPart whole part (cond b (length bytes) (startAt form bytes k)) (cond b 0 (factSize form k * countAt form bytes k))) (sym e)
+        subst (λ b. IsPart whole part (cond b (length bytes) (startAt form bytes k))
+        (cond b 0 (factSize form k * countAt form bytes k))) (sym e)
         (subst (λ n. IsPart whole part n (factSize form k * countAt form bytes k)) s (subst (IsPart whole part start) z h))

@@ -62,21 +62,26 @@ numbersFrom s bytes q zero = []
 numbersFrom s bytes q (suc n) = numberAt s bytes q ∷ numbersFrom s bytes (q + s) n
 
 module _ (s : ℕ) (h : 0 < s) (bytes : List ℕ) where
-  pub numbers-read : (m rest : List ℕ) (q : ℕ) → drop q bytes ≡ concatMap (inBytes s) m ++ rest → numbersFrom s bytes q (length m) ≡ m
+  pub numbers-read : (m rest : List ℕ) (q : ℕ) → drop q bytes ≡ concatMap (inBytes s) m ++ rest → numbersFrom s bytes q (length m)
+      ≡ m
   numbers-read [] rest q e = refl
   numbers-read (x ∷ m) rest q e =
       let tail : List ℕ = concatMap (inBytes s) m ++ rest in
       let split : drop q bytes ≡ inBytes s x ++ tail = e ∙ append-assoc (inBytes s x) (concatMap (inBytes s) m) rest in
-      let first : numberAt s bytes q ≡ x = ap (λ l. fromBytes (take s l)) split ∙ (ap fromBytes (take-at (inBytes s x) tail s (inBytes-length s x)) ∙ inBytes-back s x h) in
-      let later : drop (q + s) bytes ≡ tail = sym (drop-drop s q bytes) ∙ (ap (drop s) split ∙ drop-at (inBytes s x) tail s (inBytes-length s x)) in
+      let first : numberAt s bytes q ≡ x = ap (λ l. fromBytes (take s l)) split
+      ∙ (ap fromBytes (take-at (inBytes s x) tail s (inBytes-length s x)) ∙ inBytes-back s x h) in
+      let later : drop (q + s) bytes ≡ tail =
+      sym (drop-drop s q bytes) ∙ (ap (drop s) split ∙ drop-at (inBytes s x) tail s (inBytes-length s x)) in
       rw (first) (ap (λ l. x ∷ l) (numbers-read m rest (q + s) later))
 
-  pub numbers-written : AllBytes bytes → (n q : ℕ) → q + n * s ≤ length bytes → concatMap (inBytes s) (numbersFrom s bytes q n) ≡ take (n * s) (drop q bytes)
+  pub numbers-written : AllBytes bytes → (n q : ℕ) → q + n * s ≤ length bytes → concatMap (inBytes s) (numbersFrom s bytes q n)
+      ≡ take (n * s) (drop q bytes)
   numbers-written b zero q l = let none : 0 ≡ 0 * s = omega arith in ap (λ k. take k (drop q bytes)) none
   numbers-written b (suc n) q l =
       let part : List ℕ = take s (drop q bytes) in
       let long : length part ≡ s = length-take-le s (drop q bytes) (omega (arith, length-drop q bytes)) in
-      let first : inBytes s (numberAt s bytes q) ≡ part = fromBytes-back s part long (under-take s (drop q bytes) (under-drop q bytes b)) in
+      let first : inBytes s (numberAt s bytes q) ≡ part =
+      fromBytes-back s part long (under-take s (drop q bytes) (under-drop q bytes b)) in
       let more : suc n * s ≡ s + n * s = omega arith in
       ap (λ a. a ++ concatMap (inBytes s) (numbersFrom s bytes (q + s) n)) first
       ∙ (ap (λ a. part ++ a) (numbers-written b n (q + s) (omega arith) ∙ ap (take (n * s)) (sym (drop-drop s q bytes)))

@@ -29,12 +29,16 @@ module _ (bytes : List ℕ) (b : AllBytes bytes) where
   tests : Tests (not (malformed product form bytes)) (Contents form bytes × T (laidOut product 1 (wordsOf product form bytes)))
   tests = tests-well product form proper (lit≤ tt) bytes b (lit≤ tt)
 
-  pub rising-well : Contents form bytes → (r : Bool) → r ≡ laidOut product 1 (wordsOf product form bytes) → r ≡ not (malformed product form bytes)
-  rising-well c r e = decides-second r (not (malformed product form bytes)) tests c (subst (λ s. Decides s (T (laidOut product 1 (wordsOf product form bytes)))) (sym e) (decides-self (laidOut product 1 (wordsOf product form bytes))))
+  pub rising-well : Contents form bytes → (r : Bool) → r ≡ laidOut product 1 (wordsOf product form bytes)
+      → r ≡ not (malformed product form bytes)
+  rising-well c r e = decides-second r (not (malformed product form bytes)) tests c
+      (subst (λ s. Decides s (T (laidOut product 1 (wordsOf product form bytes)))) (sym e)
+      (decides-self (laidOut product 1 (wordsOf product form bytes))))
 
   -- Bytes with right contents are malformed exactly if their words are not laid out.
   pub right-malformed : Contents form bytes → malformed product form bytes ≡ badLayout product (wordsOf product form bytes)
-  right-malformed c = turned (malformed product form bytes) (laidOut product 1 (wordsOf product form bytes)) (rising-well c (laidOut product 1 (wordsOf product form bytes)) refl)
+  right-malformed c = turned (malformed product form bytes) (laidOut product 1 (wordsOf product form bytes))
+      (rising-well c (laidOut product 1 (wordsOf product form bytes)) refl)
     where
       turned : (a b : Bool) → b ≡ not a → a ≡ not b
       turned true b e = sym (ap not e)
@@ -44,4 +48,5 @@ module _ (bytes : List ℕ) (b : AllBytes bytes) where
   wrong-malformed n = decides-tests false (not (malformed product form bytes)) (λ h. n (h .0)) tests
 
 pub well-contents : (bytes : List ℕ) → malformed product form bytes ≡ false → Contents form bytes
-well-contents bytes e = subst (Contents form) (sym (read-well product form bytes e .0)) (image-contents product form proper (wordsOf product form bytes))
+well-contents bytes e = subst (Contents form) (sym (read-well product form bytes e .0)) (image-contents product form proper
+    (wordsOf product form bytes))

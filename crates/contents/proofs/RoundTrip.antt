@@ -51,54 +51,68 @@ module _ (N : Numbers) (F : Form) (s : Sound N) (proper : Proper F) (many : 10 �
   kind-again : (k : ℕ) → k ∈ kinds F → wordsIn N F image k ≡ ofKind N k l
   kind-again k i =
       let g : Given N F image l k = image-given N F proper l k i in
-      ap (λ n. wordsFrom N F image k n (startAt F image k)) (g .count) ∙ words-read N F proper image k (ofKind N k l) (g .rest) (startAt F image k) (alike k) (g .body)
+      ap (λ n. wordsFrom N F image k n (startAt F image k)) (g .count) ∙ words-read N F proper image k (ofKind N k l) (g .rest)
+      (startAt F image k) (alike k) (g .body)
 
   pub kinds-all : concatMap (λ k. ofKind N k l) (kinds F) ≡ l
-  kinds-all = grouped N s (F .entries) l rising (λ w i. let k = fact-kind (fact (N .base) w) in (facts-in w i, omega (arith, k .1, many), k .0))
+  kinds-all = grouped N s (F .entries) l rising (λ w i. let k = fact-kind (fact (N .base) w) in
+      (facts-in w i, omega (arith, k .1, many), k .0))
 
   pub words-again : wordsOf N F image ≡ l
   unfolding wordsOf
   words-again = each (kinds F) kind-again ∙ kinds-all
     where
-      each : (ks : List ℕ) → ((k : ℕ) → k ∈ ks → wordsIn N F image k ≡ ofKind N k l) → concatMap (wordsIn N F image) ks ≡ concatMap (λ k. ofKind N k l) ks
+      each : (ks : List ℕ) → ((k : ℕ) → k ∈ ks → wordsIn N F image k ≡ ofKind N k l) → concatMap (wordsIn N F image) ks
+          ≡ concatMap (λ k. ofKind N k l) ks
       each [] f = refl
-      each (k ∷ ks) f = ap (λ a. a ++ concatMap (wordsIn N F image) ks) (f k (here refl)) ∙ ap (λ a. ofKind N k l ++ a) (each ks (λ x i. f x (there i)))
+      each (k ∷ ks) f = ap (λ a. a ++ concatMap (wordsIn N F image) ks) (f k (here refl))
+          ∙ ap (λ a. ofKind N k l ++ a) (each ks (λ x i. f x (there i)))
 
   pub written-well : malformed N F image ≡ false
   unfolding malformed
   written-well =
       ap (λ m. not (sameBytes image (imageOf N F m) && laidOut N 1 m)) words-again
-      ∙ ap not (is-true {b = sameBytes image image && laidOut N 1 l} (both-and (sameBytes image image) (laidOut N 1 l) (bytes-refl image) (h .laid)))
+      ∙ ap not (is-true {b = sameBytes image image && laidOut N 1 l} (both-and (sameBytes image image) (laidOut N 1 l)
+      (bytes-refl image) (h .laid)))
 
   -- The body of a kind in the image is the ids of that kind's facts, in order.
   pub body-ids : (k : ℕ) → k ∈ kinds F → take (bodySize N F image k) (drop (bodyStart N F image k) image) ≡ bodyOf N F l k
   body-ids k i =
       let g : Given N F image l k = image-given N F proper l k i in
-      let here : bodiless N F image k ≡ false = ap (λ m. m || not (member (kinds F) k)) written-well ∙ ap not (is-true {b = member (kinds F) k} (in-member (kinds F) k i)) in
-      let size : factSize F k * countAt F image k ≡ factSize F k * length (ofKind N k l) = ap (λ n. factSize F k * n) (g .count) in
+      let here : bodiless N F image k ≡ false = ap (λ m. m || not (member (kinds F) k)) written-well
+      ∙ ap not (is-true {b = member (kinds F) k} (in-member (kinds F) k i)) in
+      let size : factSize F k * countAt F image k ≡ factSize F k * length (ofKind N k l) =
+      ap (λ n. factSize F k * n) (g .count) in
       ap (λ m. take (cond m 0 (factSize F k * countAt F image k)) (drop (cond m (length image) (startAt F image k)) image)) here
-      ∙ (ap (λ n. take n (drop (startAt F image k) image)) size ∙ (ap (take (factSize F k * length (ofKind N k l))) (g .body) ∙ take-at (bodyOf N F l k) (g .rest) (factSize F k * length (ofKind N k l)) (bodyOf-length N F l k)))
+      ∙ (ap (λ n. take n (drop (startAt F image k) image)) size ∙ (ap (take (factSize F k * length (ofKind N k l))) (g .body)
+      ∙ take-at (bodyOf N F l k) (g .rest) (factSize F k * length (ofKind N k l)) (bodyOf-length N F l k)))
 
 -- Bytes that are well formed are the image of the words that they give, which are laid out.
-pub read-well : (N : Numbers) (F : Form) (bytes : List ℕ) → malformed N F bytes ≡ false → (bytes ≡ imageOf N F (wordsOf N F bytes)) × T (laidOut N 1 (wordsOf N F bytes))
+pub read-well : (N : Numbers) (F : Form) (bytes : List ℕ) → malformed N F bytes ≡ false
+    → (bytes ≡ imageOf N F (wordsOf N F bytes)) × T (laidOut N 1 (wordsOf N F bytes))
 unfolding malformed
 read-well N F bytes e =
     let l : List ℕ = wordsOf N F bytes in
-    let r = and-both (sameBytes bytes (imageOf N F l)) (laidOut N 1 l) (subst T (sym (not-false (sameBytes bytes (imageOf N F l) && laidOut N 1 l) e)) tt) in
+    let r = and-both (sameBytes bytes (imageOf N F l)) (laidOut N 1 l)
+    (subst T (sym (not-false (sameBytes bytes (imageOf N F l) && laidOut N 1 l) e)) tt) in
     (bytes-eq bytes (imageOf N F l) (r .0), r .1)
 
-pub well-read : (N : Numbers) (F : Form) (bytes : List ℕ) → bytes ≡ imageOf N F (wordsOf N F bytes) → T (laidOut N 1 (wordsOf N F bytes)) → malformed N F bytes ≡ false
+pub well-read : (N : Numbers) (F : Form) (bytes : List ℕ) → bytes ≡ imageOf N F (wordsOf N F bytes)
+    → T (laidOut N 1 (wordsOf N F bytes)) → malformed N F bytes ≡ false
 unfolding malformed
 well-read N F bytes e t =
     let l : List ℕ = wordsOf N F bytes in
     let same : T (sameBytes bytes (imageOf N F l)) = subst (λ m. T (sameBytes bytes m)) e (bytes-refl bytes) in
-    ap not (is-true {b = sameBytes bytes (imageOf N F l) && laidOut N 1 l} (both-and (sameBytes bytes (imageOf N F l)) (laidOut N 1 l) same t))
+    ap not (is-true {b = sameBytes bytes (imageOf N F l) && laidOut N 1 l} (both-and (sameBytes bytes (imageOf N F l))
+    (laidOut N 1 l) same t))
 
 -- So they are well formed exactly if the contents are right and the words laid out.
-module _ (N : Numbers) (F : Form) (proper : Proper F) (few : F .entries ≤ 10) (bytes : List ℕ) (b : AllBytes bytes) (room : 256 ^ F .idSize ≤ N .base) where
+module _ (N : Numbers) (F : Form) (proper : Proper F) (few : F .entries ≤ 10) (bytes : List ℕ) (b : AllBytes bytes)
+    (room : 256 ^ F .idSize ≤ N .base) where
   pub tests-well : Tests (not (malformed N F bytes)) (Contents F bytes × T (laidOut N 1 (wordsOf N F bytes)))
   tests-well = record {
-    sound = λ t. let r = read-well N F bytes (is-false (T-not (malformed N F bytes) t)) in (subst (Contents F) (sym (r .0)) (image-contents N F proper (wordsOf N F bytes)), r .1);
+    sound = λ t. let r = read-well N F bytes (is-false (T-not (malformed N F bytes) t)) in
+        (subst (Contents F) (sym (r .0)) (image-contents N F proper (wordsOf N F bytes)), r .1);
     complete = λ h. subst (λ m. T (not m)) (sym (well-read N F bytes (image-again N F proper few bytes b room (h .0)) (h .1))) tt;
   }
 
@@ -106,13 +120,15 @@ module _ (N : Numbers) (F : Form) (proper : Proper F) (few : F .entries ≤ 10) 
 module _ (N : Numbers) (F : Form) (s : Sound N) (bytes : List ℕ) where
   pub words-some : (w : ℕ) → w ∈ wordsOf N F bytes → 0 < w
   unfolding wordsOf
-  words-some w i = let r = in-concatMap (wordsIn N F bytes) (kinds F) i in from-some (r .0) (countAt F bytes (r .0)) (startAt F bytes (r .0)) (r .2)
+  words-some w i = let r = in-concatMap (wordsIn N F bytes) (kinds F) i in
+      from-some (r .0) (countAt F bytes (r .0)) (startAt F bytes (r .0)) (r .2)
     where
       from-some : (k n p : ℕ) → w ∈ wordsFrom N F bytes k n p → 0 < w
       from-some k zero p i = absurd (none-in i)
       from-some k (suc n) p i =
           let f : Fact = made k (idAt F bytes p 0) (idAt F bytes p 1) (idAt F bytes p 2) in
-          ⊎-elim (λ e. omega (arith, e, word-some (N .base) f (omega (arith, s .mark, s .digit)))) (from-some k n (p + factSize F k)) (in-cons i)
+          ⊎-elim (λ e. omega (arith, e, word-some (N .base) f (omega (arith, s .mark, s .digit))))
+          (from-some k n (p + factSize F k)) (in-cons i)
 
   pub words-full : filled (wordsOf N F bytes) ≡ wordsOf N F bytes
   words-full = filter-all (λ x. not (eqb x 0)) (wordsOf N F bytes) (λ w i. differs w 0 (λ e. omega (arith, e, words-some w i)))

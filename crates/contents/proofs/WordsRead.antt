@@ -31,9 +31,11 @@ Alike N k m = (w : ℕ) → w ∈ m → T (isFact N w) × (factKind N w ≡ k)
 module _ (N : Numbers) (F : Form) where
   pub idBytes-length : (w : ℕ) → length (idBytes N F w) ≡ factSize F (factKind N w)
   idBytes-length w =
-      concat-length (inBytes (F .idSize)) (F .idSize) (ids (fact (N .base) w)) (inBytes-length (F .idSize)) ∙ ap (λ n. n * F .idSize) (ids-count (fact (N .base) w))
+      concat-length (inBytes (F .idSize)) (F .idSize) (ids (fact (N .base) w)) (inBytes-length (F .idSize))
+      ∙ ap (λ n. n * F .idSize) (ids-count (fact (N .base) w))
 
-  pub body-length : (k : ℕ) (m : List ℕ) → ((w : ℕ) → w ∈ m → factKind N w ≡ k) → length (concatMap (idBytes N F) m) ≡ factSize F k * length m
+  pub body-length : (k : ℕ) (m : List ℕ) → ((w : ℕ) → w ∈ m → factKind N w ≡ k) → length (concatMap (idBytes N F) m) ≡ factSize F
+      k * length m
   body-length k [] h = omega arith
   body-length k (w ∷ m) h =
       let size : ℕ = factSize F k in
@@ -46,7 +48,8 @@ module _ (N : Numbers) (F : Form) where
   wordsFrom-length bytes k (suc n) p = ap suc (wordsFrom-length bytes k n (p + factSize F k))
 
   module _ (proper : Proper F) (bytes : List ℕ) where
-    pub words-read : (k : ℕ) (m rest : List ℕ) (p : ℕ) → Alike N k m → drop p bytes ≡ concatMap (idBytes N F) m ++ rest → wordsFrom N F bytes k (length m) p ≡ m
+    pub words-read : (k : ℕ) (m rest : List ℕ) (p : ℕ) → Alike N k m → drop p bytes ≡ concatMap (idBytes N F) m ++ rest
+        → wordsFrom N F bytes k (length m) p ≡ m
     words-read k [] rest p a e = refl
     words-read k (w ∷ m) rest p a e =
         let f : Fact = fact (N .base) w in
@@ -57,26 +60,33 @@ module _ (N : Numbers) (F : Form) where
         ap (λ n. word (N .base) (made n (idAt F bytes p 0) (idAt F bytes p 1) (idAt F bytes p 2))) (sym (h .1))
         ∙ (ap (word (N .base)) (fact-read F proper bytes f tail p split) ∙ fact-says N w (h .0)) in
         let long : length (idBytes N F w) ≡ factSize F k = idBytes-length w ∙ ap (factSize F) (h .1) in
-        let later : drop (p + factSize F k) bytes ≡ tail = sym (drop-drop (factSize F k) p bytes) ∙ (ap (drop (factSize F k)) split ∙ drop-at (idBytes N F w) tail (factSize F k) long) in
-        ap (λ x. x ∷ wordsFrom N F bytes k (length m) (p + factSize F k)) first ∙ ap (λ l. w ∷ l) (words-read k m rest (p + factSize F k) (λ x i. a x (there i)) later)
+        let later : drop (p + factSize F k) bytes ≡ tail = sym (drop-drop (factSize F k) p bytes)
+        ∙ (ap (drop (factSize F k)) split ∙ drop-at (idBytes N F w) tail (factSize F k) long) in
+        ap (λ x. x ∷ wordsFrom N F bytes k (length m) (p + factSize F k)) first
+        ∙ ap (λ l. w ∷ l) (words-read k m rest (p + factSize F k) (λ x i. a x (there i)) later)
 
     module _ (b : AllBytes bytes) (room : 256 ^ F .idSize ≤ N .base) (k : ℕ) (i : IsKind k) where
       -- The fact at a place is the one that its word stands for.
-      pub fact-at : (p : ℕ) → fact (N .base) (wordAt N F bytes k p) ≡ made k (idAt F bytes p 0) (idAt F bytes p 1) (idAt F bytes p 2)
-      fact-at p = fact-word (N .base) (made k (idAt F bytes p 0) (idAt F bytes p 1) (idAt F bytes p 2)) (fact-below F proper bytes b (N .base) k p room i)
+      pub fact-at : (p : ℕ) → fact (N .base) (wordAt N F bytes k p) ≡ made k (idAt F bytes p 0) (idAt F bytes p 1)
+          (idAt F bytes p 2)
+      fact-at p = fact-word (N .base) (made k (idAt F bytes p 0) (idAt F bytes p 1) (idAt F bytes p 2))
+          (fact-below F proper bytes b (N .base) k p room i)
 
       pub kind-at : (p : ℕ) → factKind N (wordAt N F bytes k p) ≡ k
       kind-at p = ap kind (fact-at p) ∙ i .of-kind (idAt F bytes p 0) (idAt F bytes p 1) (idAt F bytes p 2)
 
-      pub words-written : (n p : ℕ) → p + factSize F k * n ≤ length bytes → concatMap (idBytes N F) (wordsFrom N F bytes k n p) ≡ take (factSize F k * n) (drop p bytes)
+      pub words-written : (n p : ℕ) → p + factSize F k * n ≤ length bytes → concatMap (idBytes N F) (wordsFrom N F bytes k n p)
+          ≡ take (factSize F k * n) (drop p bytes)
       words-written zero p h = let none : 0 ≡ factSize F k * 0 = omega arith in ap (λ j. take j (drop p bytes)) none
       words-written (suc n) p h =
           let s : ℕ = factSize F k in
           let more : s * suc n ≡ s + s * n = omega arith in
           let first : idBytes N F (wordAt N F bytes k p) ≡ take s (drop p bytes) =
-          ap (λ f. concatMap (inBytes (F .idSize)) (ids f)) (fact-at p) ∙ fact-written F proper bytes b k p i (omega (arith, more)) in
+          ap (λ f. concatMap (inBytes (F .idSize)) (ids f)) (fact-at p) ∙ fact-written F proper bytes b k p i
+          (omega (arith, more)) in
           ap (λ a. a ++ concatMap (idBytes N F) (wordsFrom N F bytes k n (p + s))) first
-          ∙ (ap (λ a. take s (drop p bytes) ++ a) (words-written n (p + s) (omega (arith, more)) ∙ ap (take (s * n)) (sym (drop-drop s p bytes)))
+          ∙ (ap (λ a. take s (drop p bytes) ++ a) (words-written n (p + s) (omega (arith, more))
+          ∙ ap (take (s * n)) (sym (drop-drop s p bytes)))
           ∙ (sym (take-add s (s * n) (drop p bytes)) ∙ ap (λ j. take j (drop p bytes)) (sym more)))
 
       pub words-alike : (n p w : ℕ) → w ∈ wordsFrom N F bytes k n p → factKind N w ≡ k

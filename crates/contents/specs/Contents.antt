@@ -12,10 +12,12 @@ pub record Entry (F : Form) (bytes : List ℕ) (k start : ℕ) : Type 0 where
   pub size : getD bytes (entryAt F k + 1) 0 ≡ factSize F k
   pub start-is : startAt F bytes k ≡ start
 
--- The entries of kinds are right if the body of the first starts at `start`, and the bytes end where the body of the last does.
+-- The entries of kinds are right if the body of the first starts at `start`, and the bytes end where the body
+-- of the last does.
 abbrev pub Chained : Form → List ℕ → ℕ → List ℕ → Type 0
 Chained F bytes start [] = length bytes ≡ start
-Chained F bytes start (k ∷ ks) = Entry F bytes k start × Chained F bytes (start + factSize F k * countAt F bytes k) ks
+Chained F bytes start (k ∷ ks) =
+    Entry F bytes k start × Chained F bytes (start + factSize F k * countAt F bytes k) ks
 
 -- All entries are right.
 pub record Linked (F : Form) (bytes : List ℕ) : Type 0 where

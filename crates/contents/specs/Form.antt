@@ -1,9 +1,11 @@
--- The numbers of an image's form, in one place, and numbers in bytes. Definitions and theorems take the form as a parameter.
+-- The numbers of an image's form, in one place, and numbers in bytes. Definitions and theorems take the form
+-- as a parameter.
 use Prim.Native.Nat.{ℕ, zero, suc, _+_, _*_, _-_, _/_, _%_, _^_, _<_}
 use mathlib.Core.List.{List, [], _∷_}
 use Rattle.rdfs.specs.Numbers.{arity}
 
--- The edition; how many entries the contents have, one for each kind from 1 on; the bytes of an id; the bytes of a start, and of a count.
+-- The edition; how many entries the contents have, one for each kind from 1 on; the bytes of an id; the bytes
+-- of a start, and of a count.
 pub record Form : Type 0 where
   pub edition : ℕ
   pub entries : ℕ
@@ -25,7 +27,8 @@ largestFact F = factSize F (F .entries)
 abbrev pub entrySize : Form → ℕ
 entrySize F = 2 + (F .fieldSize + F .fieldSize)
 
--- Where the entry of kind k stands: after the edition and the number of entries, and the entries of lower kinds.
+-- Where the entry of kind k stands: after the edition and the number of entries, and the entries of lower
+-- kinds.
 abbrev pub entryAt : Form → ℕ → ℕ
 entryAt F k = 2 + (k - 1) * entrySize F
 
@@ -48,7 +51,8 @@ byteValues = 256
 abbrev pub fieldValues : Form → ℕ
 fieldValues F = byteValues ^ F .fieldSize
 
--- A number in n bytes, low byte first. If it is too great for n bytes, the last part is above 255 and no byte: no image has it.
+-- A number in n bytes, low byte first. If it is too great for n bytes, the last part is above 255 and no
+-- byte: no image has it.
 abbrev pub inBytes : ℕ → ℕ → List ℕ
 inBytes zero x = []
 inBytes (suc zero) x = x ∷ []

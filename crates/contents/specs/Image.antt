@@ -32,10 +32,13 @@ bodies N F l ks = concatMap (bodyOf N F l) ks
 abbrev pub entry : Form → ℕ → ℕ → ℕ → List ℕ
 entry F k start count = k ∷ factSize F k ∷ concatMap (inBytes (F .fieldSize)) (start ∷ count ∷ [])
 
--- The entries of kinds, if the body of the first of them starts at `start`. An empty body's start is where the next begins.
+-- The entries of kinds, if the body of the first of them starts at `start`. An empty body's start is where
+-- the next begins.
 abbrev pub contents : Numbers → Form → List ℕ → ℕ → List ℕ → List ℕ
 contents N F l start [] = []
-contents N F l start (k ∷ ks) = entry F k start (length (ofKind N k l)) ++ contents N F l (start + factSize F k * length (ofKind N k l)) ks
+contents N F l start (k ∷ ks) =
+    entry F k start (length (ofKind N k l)) ++ contents N F l (start + factSize F k * length (ofKind N k l))
+    ks
 
 unfoldable pub imageOf : Numbers → Form → List ℕ → List ℕ
 imageOf N F l = F .edition ∷ F .entries ∷ (contents N F l (firstBody F) (kinds F) ++ bodies N F l (kinds F))

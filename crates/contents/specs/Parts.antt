@@ -8,8 +8,8 @@ use Rattle.rdfs.specs.Numbers.{product}
 use Rattle.contents.specs.Form.{form}
 use Rattle.contents.specs.Reading.{bodyStart, bodySize}
 
--- The part of `whole` that starts `start` bytes after its first and is `size` bytes long. It lies in the same block of memory, so two empty
--- parts at different places differ.
+-- The part of `whole` that starts `start` bytes after its first and is `size` bytes long. It lies in the same
+-- block of memory, so two empty parts at different places differ.
 pub record IsPart (whole part : RefT (List ℕ)) (start size : ℕ) : Type 0 where
   pub block : part .ptr .0 ≡ whole .ptr .0
   pub offset : part .ptr .1 ≡ whole .ptr .1 + start

@@ -51,7 +51,8 @@ wordsOf N F bytes = concatMap (wordsIn N F bytes) (kinds F)
 
 -- 12: the bytes are not the image of facts, ascending, none twice.
 unfoldable pub malformed : Numbers → Form → List ℕ → Bool
-malformed N F bytes = let l : List ℕ = wordsOf N F bytes in not (sameBytes bytes (imageOf N F l) && laidOut N 1 l)
+malformed N F bytes = let l : List ℕ = wordsOf N F bytes in
+    not (sameBytes bytes (imageOf N F l) && laidOut N 1 l)
 
 -- The bytes have no body of kind k to hand out.
 abbrev pub bodiless : Numbers → Form → List ℕ → ℕ → Bool

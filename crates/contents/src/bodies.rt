@@ -24,7 +24,8 @@ use table::word_of;
 
 // What a walk over the facts of a body finds.
 pub enum Rise {
-    // The last word, or the one before the body if it is empty: the words are facts, each above the one before.
+    // The last word, or the one before the body if it is empty: the words are facts, each above the one
+    // before.
     To(Word),
     // A word that is no fact, or not above the one before.
     Broken,
@@ -57,10 +58,12 @@ pub fn word_at(image: &[u8], k: Word, p: usize) -> Word
     word_of(k, a, b, c)
 }
 
-// Whether the count facts of kind k from place `from` on are facts, each above the one before, the first above `last`.
+// Whether the count facts of kind k from place `from` on are facts, each above the one before, the first
+// above `last`.
 fn rise_of(image: &[u8], k: Word, from: usize, count: usize, last: Word) -> Rise
     requires { ⌜ (1 ≤ k) × (k ≤ form .entries) × (from + factSize form k * count ≤ length (now image)) ⌝ }
-    ensures { λ r. ⌜ ((rest : List ℕ) → RisesTo last (wordsFrom product form (now (image .entry)) k count from) rest r) ⌝ }
+    ensures { λ r. ⌜ ((rest : List ℕ) → RisesTo last (wordsFrom product form (now (image .entry)) k count
+        from) rest r) ⌝ }
 {
     let size = fact_size(k);
     let mut i = 0;

@@ -74,7 +74,8 @@ fn is_entry(image: &[u8], k: Word, start: usize) -> bool
     true
 }
 
-// Whether each entry is right, with no gap between the bodies, and the image ends with the last. The sums are wide.
+// Whether each entry is right, with no gap between the bodies, and the image ends with the last. The sums are
+// wide.
 fn is_chained(image: &[u8]) -> bool
     requires { ⌜ firstBody form ≤ length (now image) ⌝ }
     ensures { λ r. ⌜ Decides r (Linked form (now (image .entry))) ⌝ }

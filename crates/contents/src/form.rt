@@ -42,7 +42,13 @@ pub struct Sizes {
 
 // The constants are the definitions' numbers.
 pub fn numbers() -> Sizes
-    ensures { λ r. ⌜ (record { edition = r .edition; entries = r .entries; idSize = r .id; fieldSize = r .field } ≡ form) × (r .entry ≡ entrySize form) × (r .first ≡ firstBody form) × (r .fact ≡ largestFact form) ⌝ }
+    ensures { λ r. ⌜ (record {
+      edition = r .edition;
+      entries = r .entries;
+      idSize = r .id;
+      fieldSize = r .field;
+    } ≡ form) × (r .entry ≡ entrySize form) × (r .first ≡ firstBody form)
+        × (r .fact ≡ largestFact form) ⌝ }
 {
     Sizes {
         edition: EDITION,

@@ -68,7 +68,8 @@ module _ (t output : List ℕ) (w : Written) (out : List ℕ) (p : WritePromise 
       let s = write-saved z in
       let table : Table product t = checked-table product t (sym (s .0)) in
       let later : ℕ = orElse (badLayout product t) 2 (orElse (inconsistent product t) 3 0) in
-      let sized : badSize product t ≡ false = is-false (passed-link (badSize product t) 1 later 0 (omega arith) (sym (s .0)) .0) in
+      let sized : badSize product t ≡ false =
+      is-false (passed-link (badSize product t) 1 later 0 (omega arith) (sym (s .0)) .0) in
       let size : badSize product u ≡ false = ap (λ n. leb n 0 || ltb (product .most) n) h ∙ sized in
       let within : length (filled t) ≤ length t = filled-within product t (table .laid) in
       let fits : length (filled t) ≤ length u = subst (λ n. length (filled t) ≤ n) (sym h) within in

@@ -31,15 +31,18 @@ pub written-reads : (N : Numbers) (F : Form) → Sound N → Proper F → 10 ≤
 written-reads N F s p h l f = (words-again N F s p h l f, written-well N F s p h l f)
 
 -- Bytes that are well formed are exactly the image of the words that they give, so no other image is read.
-pub read-is-written : (N : Numbers) (F : Form) → Sound N → (bytes : List ℕ) → malformed N F bytes ≡ false → (bytes ≡ imageOf N F (wordsOf N F bytes)) × Facts N (wordsOf N F bytes)
+pub read-is-written : (N : Numbers) (F : Form) → Sound N → (bytes : List ℕ) → malformed N F bytes ≡ false
+    → (bytes ≡ imageOf N F (wordsOf N F bytes)) × Facts N (wordsOf N F bytes)
 read-is-written N F s bytes e = let r = read-well N F bytes e in (r .0, record { laid = r .1; full = words-full N F s bytes })
 
 -- The body of a kind in an image that was written is the ids of that kind's facts, in order.
-pub body-is-ids : (N : Numbers) (F : Form) → Sound N → Proper F → 10 ≤ F .entries → (l : List ℕ) → Facts N l → (k : ℕ) → k ∈ kinds F
+pub body-is-ids : (N : Numbers) (F : Form) → Sound N → Proper F → 10 ≤ F .entries → (l : List ℕ) → Facts N l → (k : ℕ)
+    → k ∈ kinds F
     → let image : List ℕ = imageOf N F l in take (bodySize N F image k) (drop (bodyStart N F image k) image) ≡ bodyOf N F l k
 body-is-ids N F s p h l f k i = body-ids N F s p h l f k i
 
--- A table that is not refused, written and read into a table of any length that holds its facts: answer 0, the same facts, then zeros.
+-- A table that is not refused, written and read into a table of any length that holds its facts: answer 0, the same facts, then
+-- zeros.
 pub image-reads-back : (t u : List ℕ) → 0 ≡ tableRefusal product t 0 → badSize product u ≡ false → length (filled t) ≤ length u
     → (0 ≡ readAnswer u (tableImage t)) × (padded (length u) (filled t) ≡ readWords u (tableImage t))
 image-reads-back t u e size h =
@@ -49,18 +52,25 @@ image-reads-back t u e size h =
     let f : Facts product l = filled-facts product product-sound t (table .laid) in
     let r = written-reads product form product-sound proper (lit≤ tt) l f in
     let fits : length (wordsOf product form bytes) ≤ length u = subst (λ m. length m ≤ length u) (sym (r .0)) h in
-    let same : inconsistent product (wordsOf product form bytes) ≡ false = ap (inconsistent product) (r .0) ∙ (ap (λ m. not (consistent? (map (fact (product .base)) m))) (f .full) ∙ is-false (table-sane product t table .rules)) in
-    let none : readAnswer u bytes ≡ 0 = read-fitting u bytes size fits ∙ (ap (λ b. orElse b 12 (orElse (inconsistent product (wordsOf product form bytes)) 3 0)) (r .1) ∙ ap (λ b. orElse b 3 0) same) in
+    let same : inconsistent product (wordsOf product form bytes) ≡ false =
+    ap (inconsistent product) (r .0) ∙ (ap (λ m. not (consistent? (map (fact (product .base)) m))) (f .full)
+    ∙ is-false (table-sane product t table .rules)) in
+    let none : readAnswer u bytes ≡ 0 =
+    read-fitting u bytes size fits ∙ (ap (λ b. orElse b 12 (orElse (inconsistent product (wordsOf product form bytes)) 3 0))
+    (r .1) ∙ ap (λ b. orElse b 3 0) same) in
     read-done u bytes (sym none) (padded (length u) l) (ap (padded (length u)) (sym (r .0)))
 
 -- Read into a table of its own length it is the same table.
-pub table-reads-back : (t u : List ℕ) → 0 ≡ tableRefusal product t 0 → badSize product u ≡ false → length t ≡ length u → t ≡ readWords u (tableImage t)
+pub table-reads-back : (t u : List ℕ) → 0 ≡ tableRefusal product t 0 → badSize product u ≡ false → length t ≡ length u
+    → t ≡ readWords u (tableImage t)
 table-reads-back t u e size h =
     let laid = checked-table product t (sym e) .laid in
-    laid-shape product t laid ∙ (ap (λ n. padded n (filled t)) h ∙ image-reads-back t u e size (subst (λ n. length (filled t) ≤ n) h (filled-within product t laid)) .1)
+    laid-shape product t laid ∙ (ap (λ n. padded n (filled t)) h ∙ image-reads-back t u e size (subst (λ n. length (filled t) ≤ n)
+    h (filled-within product t laid)) .1)
 
 -- Bytes that are read are exactly the image that writing gives for the table read, which writing does not refuse.
-pub read-writes : (t bytes : List ℕ) → 0 ≡ readAnswer t bytes → (bytes ≡ tableImage (readWords t bytes)) × (0 ≡ tableRefusal product (readWords t bytes) 0)
+pub read-writes : (t bytes : List ℕ) → 0 ≡ readAnswer t bytes → (bytes ≡ tableImage (readWords t bytes))
+    × (0 ≡ tableRefusal product (readWords t bytes) 0)
 read-writes t bytes e =
     let l : List ℕ = wordsOf product form bytes in
     let p = read-parts t bytes e in
@@ -68,5 +78,6 @@ read-writes t bytes e =
     let held : readWords t bytes ≡ padded (length t) l = sym (read-done t bytes e (padded (length t) l) refl .1) in
     let laid : badLayout product l ≡ false = ap not (is-true {b = laidOut product 1 l} (well .1)) in (
       well .0 ∙ ap (imageOf product form) (sym (ap filled held ∙ held-filled t bytes (p .0) (p .2))),
-      sym (ap (λ w. tableRefusal product w 0) held ∙ (held-checked t bytes (p .0) (p .2) ∙ (ap (λ b. orElse b 2 (orElse (inconsistent product l) 3 0)) laid ∙ p .3))),
+      sym (ap (λ w. tableRefusal product w 0) held ∙ (held-checked t bytes (p .0) (p .2)
+          ∙ (ap (λ b. orElse b 2 (orElse (inconsistent product l) 3 0)) laid ∙ p .3))),
     )

@@ -10,7 +10,6 @@ pub use contents::FIRST_BODY;
 pub use contents::LONGEST;
 pub use contents::body;
 pub use reading::read;
-pub use writing::SHORT_OUTPUT;
 pub use writing::Written;
 pub use writing::write;
 pub use writing::write_checked;

@@ -1,4 +1,5 @@
--- Demand 3, entire: from the contracts of the calls, for every consistent table and every list but one refused with 14. Assumes nothing.
+-- Demand 3, entire: from the contracts of the calls, for every consistent table and every list but one refused with 14. Assumes
+-- nothing.
 use Prim.Native.Nat.{ℕ, suc, _≤_, _<_}
 use mathlib.Core.Path.{_≡_, refl, sym, ap, subst, _∙_}
 use mathlib.Core.List.{List, []}
@@ -51,14 +52,17 @@ module _ (C : Calls) (contracts : Contracts C) (w : List ℕ) (t : Table product
     cut-fits : (k : ℕ) → length (tickets (cutOff k bytes)) ≤ length answers
     cut-fits k = omega (arith, room, ap length (first-tickets k bytes), length-take k (tickets bytes))
 
-    single-words : (ss : List Single) → OneByOne C w (tickets bytes) ss → (k : ℕ) → leftBy w (take k ss) ≡ register product w (cutOff k bytes) .table
+    single-words : (ss : List Single) → OneByOne C w (tickets bytes) ss → (k : ℕ) → leftBy w (take k ss) ≡ register product w
+        (cutOff k bytes) .table
     single-words ss h k =
         let first = first-calls C k (tickets bytes) ss w h in
-        singly C contracts (take k (tickets bytes)) (take k ss) w first .words ∙ sym (ap (λ d. d .table) (register-first w bytes k))
+        singly C contracts (take k (tickets bytes)) (take k ss) w first .words
+        ∙ sym (ap (λ d. d .table) (register-first w bytes k))
 
     -- Ticket k on the words that those before left, as one step of the register.
     after-ticket : (k : ℕ) → k < length (tickets bytes)
-        → AfterTicket (register product w (cutOff k bytes) .table) (register product w (cutOff (suc k) bytes) .table) (getD (tickets bytes) k []) (getD (register product w bytes .numbers) k 0)
+        → AfterTicket (register product w (cutOff k bytes) .table) (register product w (cutOff (suc k) bytes) .table)
+        (getD (tickets bytes) k []) (getD (register product w bytes .numbers) k 0)
     after-ticket k h =
         let l = tickets bytes in
         let ticket : List ℕ = getD l k [] in
@@ -70,18 +74,27 @@ module _ (C : Calls) (contracts : Contracts C) (w : List ℕ) (t : Table product
           there-are = a .there-are;
           is-gone = a .is-gone;
         } in
-        rw (register-first w bytes k, register-first w bytes (suc k), register-runs w bytes, words-next product l w k h, number-at product l w k h) one
+        rw (
+          register-first w bytes k,
+          register-first w bytes (suc k),
+          register-runs w bytes,
+          words-next product l w k h,
+          number-at product l w k h,
+        ) one
 
-    rearranged : AllInsertions (tickets bytes) → AllAccepted (register product w bytes .numbers) → (other room : List ℕ) → length room ≡ length answers
+    rearranged : AllInsertions (tickets bytes) → AllAccepted (register product w bytes .numbers) → (other room : List ℕ)
+        → length room ≡ length answers
         → SameTickets (tickets bytes) (tickets other) → InOrder (facts product w) (tickets other)
-        → AsRegister C w other room × AllAccepted (register product w other .numbers) × (register product w other .table ≡ register product w bytes .table)
+        → AsRegister C w other room × AllAccepted (register product w other .numbers)
+        × (register product w other .table ≡ register product w bytes .table)
     unfolding register
     rearranged i a other new e same order =
         let m = rearrangement product product-sound w t (tickets bytes) (tickets other) i a same order in
         (as-register other new (omega (arith, e, room, same-tickets-length (tickets bytes) (tickets other) same)), m .0, m .1)
 
 -- The theorem.
-pub demand-3 : (C : Calls) → Contracts C → (w : List ℕ) → Table product w → (bytes answers : List ℕ) → (listRefusal w bytes answers ≡ 14 → ⊥) → Demand3 C w bytes answers
+pub demand-3 : (C : Calls) → Contracts C → (w : List ℕ) → Table product w → (bytes answers : List ℕ)
+    → (listRefusal w bytes answers ≡ 14 → ⊥) → Demand3 C w bytes answers
 demand-3 C contracts w t bytes answers not-14 =
     let room = not-14-room w bytes answers t not-14 in
     record {

@@ -14,7 +14,8 @@ module _ (C : Calls) (contracts : Contracts C) where
       → RanSingly (s .table) ss (run product (s .table) l) → RanSingly w (s ∷ ss) (run product w (t ∷ l))
   unfolding run
   singly-more w t l s ss a r =
-      let q : RanSingly (s .table) ss (run product (step product w t .table) l) = subst (λ v. RanSingly (s .table) ss (run product v l)) (a .words) r in
+      let q : RanSingly (s .table) ss (run product (step product w t .table) l) =
+      subst (λ v. RanSingly (s .table) ss (run product v l)) (a .words) r in
       record {
         words = q .words;
         numbers = cc (a .number, q .numbers);
@@ -26,10 +27,12 @@ module _ (C : Calls) (contracts : Contracts C) where
   singly [] [] w h = record { words = refl; numbers = refl; counts = refl }
   singly [] (s ∷ ss) w h = absurd h
   singly (t ∷ l) [] w h = absurd h
-  singly (t ∷ l) (s ∷ ss) w h = singly-more w t l s ss (contracts .apply w t (s .answer) (s .table) (h .0)) (singly l ss (s .table) (h .1))
+  singly (t ∷ l) (s ∷ ss) w h =
+      singly-more w t l s ss (contracts .apply w t (s .answer) (s .table) (h .0)) (singly l ss (s .table) (h .1))
 
 -- The first calls are the calls on the first tickets.
-pub first-calls : (C : Calls) (k : ℕ) (l : List (List ℕ)) (ss : List Single) (w : List ℕ) → OneByOne C w l ss → OneByOne C w (take k l) (take k ss)
+pub first-calls : (C : Calls) (k : ℕ) (l : List (List ℕ)) (ss : List Single) (w : List ℕ) → OneByOne C w l ss
+    → OneByOne C w (take k l) (take k ss)
 first-calls C zero l ss w h = tt
 first-calls C (suc k) [] [] w h = tt
 first-calls C (suc k) [] (s ∷ ss) w h = absurd h

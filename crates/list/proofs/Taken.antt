@@ -21,7 +21,8 @@ module _ (w bytes answers : List ℕ) (t : Table product w) where
   pub not-14-room : (listRefusal w bytes answers ≡ 14 → ⊥) → length (cut recordLength bytes) ≤ length answers
   not-14-room n = go (ltb (length answers) (length (cut recordLength bytes))) refl
     where
-      go : (b : Bool) → ltb (length answers) (length (cut recordLength bytes)) ≡ b → length (cut recordLength bytes) ≤ length answers
+      go : (b : Bool) → ltb (length answers) (length (cut recordLength bytes)) ≡ b → length (cut recordLength bytes) ≤ length
+          answers
       go true e = absurd (n (table-passes product w t _ ∙ ap (λ b. orElse b 14 0) e))
       go false e = omega (arith, ltb-false (length answers) (length (cut recordLength bytes)) e)
 
@@ -34,5 +35,6 @@ module _ (w bytes answers : List ℕ) (e : listRefusal w bytes answers ≡ 0) wh
   pub answered-ran : (r : Listed) (v out : List ℕ) → ListPromise w bytes answers r v out
       → Ran answers r v out (register product w bytes)
   answered-ran r v out h =
-      let k : ListAnswered r v out (listingBy 0 w answers (register product w bytes)) = subst (ListAnswered r v out) listing-runs h in
+      let k : ListAnswered r v out (listingBy 0 w answers (register product w bytes)) =
+      subst (ListAnswered r v out) listing-runs h in
       record { answer = k .answer; words = k .words; numbers = k .numbers; accepted = k .accepted; refused = k .refused }

@@ -1,8 +1,8 @@
 // A list of tickets as bytes, run in turn on one table.
 //
-// The public call is `apply_list`. It has no `requires`: it says, for all inputs, its answer, both counts, and
-// every word and byte afterwards. Demand 3, about a whole list by every call, is proved here (proofs/Demand3).
-// The crate assumes nothing.
+// The public call is `apply_list`. It has no `requires`: it says, for all inputs, its answer, both counts,
+// and every word and byte afterwards. Demand 3, about a whole list by every call, is proved here
+// (proofs/Demand3). The crate assumes nothing.
 ghost use Prim.Native.Nat.{_≤_};
 ghost use lib.ListN.{length};
 ghost use Rattle.rdfs.specs.Numbers.{product, recordLength};
@@ -20,8 +20,10 @@ use ticket::apply_checked;
 
 // Runs the tickets in turn on a table known to be consistent. The answer is how many are accepted.
 fn run_checked(table: &mut [Word], bytes: &[u8], answers: &mut [u8]) -> usize
-    requires { ⌜ Table product (now table) × (length (cut recordLength (now bytes)) ≤ length (now answers)) ⌝ }
-    ensures { λ r. ⌜ AllRun r (now (table .exit)) (now (answers .entry)) (now (answers .exit)) (register product (now (table .entry)) (now (bytes .entry))) ⌝ }
+    requires { ⌜ Table product (now table)
+        × (length (cut recordLength (now bytes)) ≤ length (now answers)) ⌝ }
+    ensures { λ r. ⌜ AllRun r (now (table .exit)) (now (answers .entry)) (now (answers .exit))
+        (register product (now (table .entry)) (now (bytes .entry))) ⌝ }
 {
     let mut i = 0;
     let mut k = 0;
@@ -36,10 +38,12 @@ fn run_checked(table: &mut [Word], bytes: &[u8], answers: &mut [u8]) -> usize
     ok
 }
 
-// Runs a list of tickets in turn on one table, which is checked once. Each ticket's number goes to its answer byte; bytes beyond the list are
-// as they were. Refused with 1, 2, 3 or 14, the table and the answer bytes are as found.
+// Runs a list of tickets in turn on one table, which is checked once. Each ticket's number goes to its answer
+// byte; bytes beyond the list are as they were. Refused with 1, 2, 3 or 14, the table and the answer bytes
+// are as found.
 pub fn apply_list(table: &mut [Word], bytes: &[u8], answers: &mut [u8]) -> Listed
-    ensures { λ r. ⌜ ListAnswered r (now (table .exit)) (now (answers .exit)) (listing (now (table .entry)) (now (bytes .entry)) (now (answers .entry))) ⌝ }
+    ensures { λ r. ⌜ ListAnswered r (now (table .exit)) (now (answers .exit)) (listing (now (table .entry))
+        (now (bytes .entry)) (now (answers .entry))) ⌝ }
 {
     let n = count_tickets(bytes.len());
     let answer = list_refusal(table, n, answers.len());

@@ -16,8 +16,10 @@ module _ (n : ℕ) (some : 0 < n) where
   cut-take (suc k) (x ∷ l) = elim (decLe n (length (x ∷ l))) [
     | yes long ↦
         let size : suc k * n ≡ n + k * n = omega arith in
-        let record-first : take (suc k * n) (x ∷ l) ≡ take n (x ∷ l) ++ take (k * n) (drop n (x ∷ l)) = ap (λ m. take m (x ∷ l)) size ∙ take-add n (k * n) (x ∷ l) in
-        ap (cut n) record-first ∙ (cut-record n some (take n (x ∷ l)) (take (k * n) (drop n (x ∷ l))) (length-take-le n (x ∷ l) long)
+        let record-first : take (suc k * n) (x ∷ l) ≡ take n (x ∷ l) ++ take (k * n) (drop n (x ∷ l)) =
+        ap (λ m. take m (x ∷ l)) size ∙ take-add n (k * n) (x ∷ l) in
+        ap (cut n) record-first ∙ (cut-record n some (take n (x ∷ l)) (take (k * n) (drop n (x ∷ l)))
+        (length-take-le n (x ∷ l) long)
         ∙ (ap (λ c. take n (x ∷ l) ∷ c) (cut-take k (drop n (x ∷ l))) ∙ sym (ap (take (suc k)) (cut-more n some x l))))
     | no short ↦
         let below : length (x ∷ l) ≤ n = omega (arith, short) in
@@ -37,11 +39,13 @@ module _ (n : ℕ) (some : 0 < n) where
       | yes long ↦
           let at : e ≡ i + n = omega (arith, end, long) in
           let size : e - i ≡ n = omega (arith, at) in
-          cut-first ∙ (ap (λ c. take n (drop i l) ∷ cut n c) (drop-drop n i l ∙ ap (λ k. drop k l) (sym at)) ∙ ap (λ k. take k (drop i l) ∷ cut n (drop e l)) (sym size))
+          cut-first ∙ (ap (λ c. take n (drop i l) ∷ cut n c) (drop-drop n i l ∙ ap (λ k. drop k l) (sym at))
+          ∙ ap (λ k. take k (drop i l) ∷ cut n (drop e l)) (sym size))
       | no short ↦
           let at : e ≡ length l = omega (arith, end, short) in
           let rest : length (drop i l) ≤ n = omega (arith, length-drop i l, short) in
-          let whole : take n (drop i l) ≡ take (e - i) (drop i l) = take-all n (drop i l) rest ∙ sym (take-all (e - i) (drop i l) (omega (arith, length-drop i l, at))) in
+          let whole : take n (drop i l) ≡ take (e - i) (drop i l) =
+          take-all n (drop i l) rest ∙ sym (take-all (e - i) (drop i l) (omega (arith, length-drop i l, at))) in
           let past : length l ≤ e = omega (arith, at) in
           let none : drop n (drop i l) ≡ drop e l = drop-of-length-le (drop i l) rest ∙ sym (drop-of-length-le l past) in
           cut-first ∙ (ap (λ c. take n (drop i l) ∷ cut n c) none ∙ ap (λ t. t ∷ cut n (drop e l)) whole)

@@ -32,13 +32,19 @@ module _ (w : List ℕ) (n room : ℕ) (e : refusalOf w n room ≡ 0) where
   taken-room = go (ltb room n) refl
     where
       go : (b : Bool) → ltb room n ≡ b → n ≤ room
-      go true q = absurd (omega (arith, sym (table-passes product w taken-table 14) ∙ (ap (λ b. tableRefusal product w (orElse b 14 0)) (sym q) ∙ e)))
+      go true q = absurd (omega (
+        arith,
+        sym (table-passes product w taken-table 14)
+            ∙ (ap (λ b. tableRefusal product w (orElse b 14 0)) (sym q) ∙ e),
+      ))
       go false q = omega (arith, ltb-false room n q)
 
-module _ (w bytes answers : List ℕ) {n a : ℕ} {v : List ℕ} (tickets : n ≡ length (cut recordLength bytes)) (judged : a ≡ refusalOf w n (length answers)) (kept : v ≡ w) where
+module _ (w bytes answers : List ℕ) {n a : ℕ} {v : List ℕ} (tickets : n ≡ length (cut recordLength bytes))
+    (judged : a ≡ refusalOf w n (length answers)) (kept : v ≡ w) where
   by-refusal : listing w bytes answers ≡ listingBy a w answers (register product w bytes)
   unfolding listing
-  by-refusal = ap (λ k. listingBy k w answers (register product w bytes)) (sym (judged ∙ ap (λ k. refusalOf w k (length answers)) tickets))
+  by-refusal = ap (λ k. listingBy k w answers (register product w bytes))
+      (sym (judged ∙ ap (λ k. refusalOf w k (length answers)) tickets))
 
   pub list-refused : {r : Listed} → (a ≡ 0 → ⊥) → r ≡ listedOf a 0 0 → ListAnswered r v answers (listing w bytes answers)
   list-refused {r} h e = rw (by-refusal, kept, e) (go a h)
@@ -65,5 +71,12 @@ module _ (w bytes answers : List ℕ) {n a : ℕ} {v : List ℕ} (tickets : n �
     list-run {r} h e =
         let d : Done = register product w bytes in
         let ran-here : AllRun ok u answers out d = subst (λ l. AllRun ok u answers out (register product l bytes)) kept ran in
-        let rest : n - ok ≡ refusedOf (d .numbers) = omega (arith, ran-here .accepted, all-counted (d .numbers), register-numbers w bytes, tickets) in
-        rw (by-refusal, e, h) record { answer = refl; accepted = ran-here .accepted; refused = rest; words = ran-here .words; numbers = ran-here .numbers }
+        let rest : n - ok ≡ refusedOf (d .numbers) =
+        omega (arith, ran-here .accepted, all-counted (d .numbers), register-numbers w bytes, tickets) in
+        rw (by-refusal, e, h) record {
+          answer = refl;
+          accepted = ran-here .accepted;
+          refused = rest;
+          words = ran-here .words;
+          numbers = ran-here .numbers;
+        }

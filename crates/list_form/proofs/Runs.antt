@@ -45,9 +45,11 @@ module _ (N : Numbers) where
     number-at =
         let t : List ℕ = getD l k [] in
         let split = run-append N (take k l) (t ∷ drop (suc k) l) w .1 in
-        let whole : run N w l .numbers ≡ run N w (take k l ++ (t ∷ drop (suc k) l)) .numbers = ap (λ m. run N w m .numbers) (split-at l k [] h) in
+        let whole : run N w l .numbers ≡ run N w (take k l ++ (t ∷ drop (suc k) l)) .numbers =
+        ap (λ m. run N w m .numbers) (split-at l k [] h) in
         let places : length (run N w (take k l) .numbers) ≡ k = run-numbers (take k l) w ∙ length-take-le k l (omega arith) in
-        ap (λ m. getD m k 0) (whole ∙ split) ∙ getD-at (run N w (take k l) .numbers) (step N (run N w (take k l) .table) t .number) _ 0 k places
+        ap (λ m. getD m k 0) (whole ∙ split) ∙ getD-at (run N w (take k l) .numbers) (step N (run N w (take k l) .table)
+        t .number) _ 0 k places
 
 -- Accepted and refused are all.
 pub all-counted : (numbers : List ℕ) → acceptedOf numbers + refusedOf numbers ≡ length numbers

@@ -48,7 +48,8 @@ listingBy zero w answers d = record {
   table = d .table;
   answers = written (d .numbers) answers;
 }
-listingBy (suc n) w answers d = record { answer = suc n; accepted = 0; refused = 0; table = w; answers = answers }
+listingBy (suc n) w answers d =
+    record { answer = suc n; accepted = 0; refused = 0; table = w; answers = answers }
 
 -- The list call on the words of a table, the bytes of a list and answer bytes, whatever they are.
 unfoldable pub listing : List ℕ → List ℕ → List ℕ → Listing
@@ -68,12 +69,13 @@ pub record ListAnswered (r : Listed) (table answers : List ℕ) (s : Listing) : 
 abbrev pub recordBytes : List Ticket → List ℕ
 recordBytes tickets = concatMap bytesOf tickets
 
--- What `apply_list` and `apply_each` promise, for all words w of a table, bytes of a list and answer bytes: they answer r, and
--- leave the words v and the answer bytes out. Demand 3 takes this as a premise, and proofs/Tied of their crates says that it is
--- the contract in the source.
+-- What `apply_list` and `apply_each` promise, for all words w of a table, bytes of a list and answer bytes:
+-- they answer r, and leave the words v and the answer bytes out. Demand 3 takes this as a premise, and
+-- proofs/Tied of their crates says that it is the contract in the source.
 abbrev pub ListPromise : (w bytes answers : List ℕ) → Listed → (v out : List ℕ) → Type 0
 ListPromise w bytes answers r v out = ListAnswered r v out (listing w bytes answers)
 
 -- What `apply_records` promises: the same of its tickets' bytes.
-abbrev pub RecordsPromise : (w : List ℕ) (tickets : List Ticket) (answers : List ℕ) → Listed → (v out : List ℕ) → Type 0
+abbrev pub RecordsPromise : (w : List ℕ) (tickets : List Ticket) (answers : List ℕ) → Listed
+    → (v out : List ℕ) → Type 0
 RecordsPromise w tickets answers = ListPromise w (recordBytes tickets) answers

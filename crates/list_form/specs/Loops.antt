@@ -1,4 +1,5 @@
--- What the functions under the list calls answer and leave: one ticket of a list, a loop over tickets, the counts.
+-- What the functions under the list calls answer and leave: one ticket of a list, a loop over tickets, the
+-- counts.
 use Prim.Native.Nat.{ℕ, _+_, _-_, _/_, _%_}
 use mathlib.Core.Path.{_≡_}
 use mathlib.Core.Bool.{cond}
@@ -24,7 +25,8 @@ pub record OneRun (k ok r : ℕ) (table answers out : List ℕ) (s : Answer) : T
   pub words : table ≡ s .table
   pub numbers : out ≡ set answers k (s .number)
 
--- A loop over tickets, if the register does `d` with them: how many it accepts, and the words and answer bytes that it leaves.
+-- A loop over tickets, if the register does `d` with them: how many it accepts, and the words and answer
+-- bytes that it leaves.
 pub record AllRun (ok : ℕ) (table answers out : List ℕ) (d : Done) : Type 0 where
   pub accepted : ok ≡ acceptedOf (d .numbers)
   pub words : table ≡ d .table

@@ -6,15 +6,14 @@ ghost use Rattle.list_form.specs.Listing.{refusalOf};
 ghost use Rattle.list_form.specs.Loops.{acceptedAfter, listedOf};
 use crate::Listed;
 use consistency::check;
+use table::FEW_ANSWERS;
 use table::Word;
 
-// Refusal 14: fewer answer bytes than tickets.
-pub const FEW_ANSWERS: u8 = 14;
-
-// The first of refusals 1, 2, 3 and 14 whose condition holds, or 0, of a list of n tickets with this many answer bytes. The table keeps its
-// words.
+// The first of refusals 1, 2, 3 and 14 whose condition holds, or 0, of a list of n tickets with this many
+// answer bytes. The table keeps its words.
 pub fn list_refusal(table: &mut [Word], n: usize, room: usize) -> u8
-    ensures { λ r. ⌜ (r ≡ refusalOf (now (table .entry)) n room) × (now (table .exit) ≡ now (table .entry)) ⌝ }
+    ensures { λ r. ⌜ (r ≡ refusalOf (now (table .entry)) n room)
+        × (now (table .exit) ≡ now (table .entry)) ⌝ }
 {
     let answer = check(table);
     if answer != 0 {
@@ -29,7 +28,8 @@ pub fn list_refusal(table: &mut [Word], n: usize, room: usize) -> u8
 // Ticket k's number goes to its byte. The answer is how many are accepted, ok of those before it.
 pub fn put_number(answers: &mut [u8], k: usize, ok: usize, number: u8) -> usize
     requires { ⌜ (k < length (now answers)) × (ok ≤ k) ⌝ }
-    ensures { λ r. ⌜ (r ≡ acceptedAfter ok number) × (now (answers .exit) ≡ set (now (answers .entry)) k number) ⌝ }
+    ensures { λ r. ⌜ (r ≡ acceptedAfter ok number) × (now (answers .exit) ≡ set (now (answers .entry)) k
+        number) ⌝ }
 {
     answers[k] = number;
     if number == 0 {

@@ -31,8 +31,10 @@ room = replicate (product .most) 0
 pub filled-read : (image : List ℕ) → filled (readWords (replicate (product .most) 0) image) ≡ wordsRead image
 filled-read image = by-answer (eqb (readAnswer (replicate (product .most) 0) image) 0)
   where
-    by-answer : (b : Bool) → filled (cond b (padded (length (replicate {A = ℕ} (product .most) 0)) (wordsOf product form image)) (replicate (product .most) 0)) ≡ cond b (wordsOf product form image) []
-    by-answer true = filled-before (wordsOf product form image) (length (replicate {A = ℕ} (product .most) 0) - length (wordsOf product form image)) (words-some product form product-sound image)
+    by-answer : (b : Bool) → filled (cond b (padded (length (replicate {A = ℕ} (product .most) 0)) (wordsOf product form image))
+        (replicate (product .most) 0)) ≡ cond b (wordsOf product form image) []
+    by-answer true = filled-before (wordsOf product form image) (length (replicate {A = ℕ} (product .most) 0) - length
+        (wordsOf product form image)) (words-some product form product-sound image)
     by-answer false = filled-before [] (product .most) (λ x h. absurd (none-in h))
 
 -- More bytes than any image has are not read.

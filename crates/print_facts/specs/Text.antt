@@ -24,13 +24,16 @@ pub record Printed (l : List ℕ) (r : ℕ) (out : List ℕ) : Type 0 where
 
 -- The facts of an image, as words; none if reading it into a table of the most words is refused.
 abbrev pub wordsRead : List ℕ → List ℕ
-wordsRead image = cond (eqb (readAnswer (replicate (product .most) 0) image) 0) (wordsOf product form image) []
+wordsRead image = cond (eqb (readAnswer (replicate (product .most) 0) image) 0) (wordsOf product form image)
+    []
 
--- What stands in the buffer from its start up to r is what program two prints, whatever image the n bytes read begin.
+-- What stands in the buffer from its start up to r is what program two prints, whatever image the n bytes
+-- read begin.
 abbrev pub PrintedFor : List ℕ → ℕ → ℕ → List ℕ → Type 0
 PrintedFor buffer n r out = (image : List ℕ) → Begins n buffer image → Printed (wordsRead image) r out
 
--- What is lent: n bytes were read into a buffer longer than any image, and there is room for the lines of any table.
+-- What is lent: n bytes were read into a buffer longer than any image, and there is room for the lines of any
+-- table.
 pub record Lent (n : ℕ) (buffer out : List ℕ) : Type 0 where
   pub within : n ≤ length buffer
   pub longer : firstBody form + largestFact form * product .most < length buffer

@@ -36,7 +36,8 @@ fn put_lines(t: &[Word], out: &mut [u8]) -> usize
     at
 }
 
-// The lines of an image's facts, at the start of out. A refused image leaves the table without facts, and has no lines.
+// The lines of an image's facts, at the start of out. A refused image leaves the table without facts, and has
+// no lines.
 fn put_facts(image: &[u8], out: &mut [u8]) -> usize
     requires { ⌜ 11 * product .most ≤ length (now out) ⌝ }
     ensures { λ r. ⌜ Printed (wordsRead (now (image .entry))) r (now (out .exit)) ⌝ }
@@ -47,8 +48,8 @@ fn put_facts(image: &[u8], out: &mut [u8]) -> usize
     put_lines(&t, out)
 }
 
-// The lines of an image's facts, at the start of out, if n bytes of it stand at the start of a buffer that is longer
-// than any image. More bytes than any image has are no image, and have no lines.
+// The lines of an image's facts, at the start of out, if n bytes of it stand at the start of a buffer that is
+// longer than any image. More bytes than any image has are no image, and have no lines.
 pub fn put_read(buffer: &[u8], n: usize, out: &mut [u8]) -> usize
     requires { ⌜ Lent n (now buffer) (now out) ⌝ }
     ensures within { λ r. ⌜ r ≤ length (now (out .exit)) ⌝ }

@@ -1,6 +1,6 @@
-// Program two: reads an image from standard input into 2,048 words and prints its facts, one decimal word a line. For
-// a refused image it prints nothing. Input longer than the longest image is refused, not cut. If a read or a write
-// fails, a line on standard error says so; after a failed read nothing is printed.
+// Program two: reads an image from standard input into 2,048 words and prints its facts, one decimal word a
+// line. For a refused image it prints nothing. Input longer than the longest image is refused, not cut. If a
+// read or a write fails, a line on standard error says so; after a failed read nothing is printed.
 mod lines;
 
 use image::LONGEST;

@@ -1,5 +1,5 @@
--- After each ticket of a list, whatever its bytes: every rule holds, a refusal changed nothing, the asked facts are there or the fact is gone,
--- an insertion removed nothing and a deletion added nothing. Assumes nothing.
+-- After each ticket of a list, whatever its bytes: every rule holds, a refusal changed nothing, the asked facts are there or the
+-- fact is gone, an insertion removed nothing and a deletion added nothing. Assumes nothing.
 use Prim.Native.Nat.{ℕ}
 use mathlib.Core.Path.{_≡_, refl, sym, ap, subst, _∙_}
 use mathlib.Core.Logic.{⊎-elim}
@@ -22,7 +22,8 @@ module _ (N : Numbers) (s : Sound N) where
     formed : step N w bytes .number ≡ 0 → Formed N bytes
     formed e = passed N w bytes (sym (step-number N w bytes) ∙ e) .formed
 
-    kept : (step N w bytes .number ≡ 0 → ⊥) → (step N w bytes .table ≡ w) × (step N w bytes .added ≡ 0) × (step N w bytes .removed ≡ 0)
+    kept : (step N w bytes .number ≡ 0 → ⊥) → (step N w bytes .table ≡ w) × (step N w bytes .added ≡ 0)
+        × (step N w bytes .removed ≡ 0)
     kept n = let k = refused-keeps N w bytes n in (k .table, k .added, k .removed)
 
     same : (n : step N w bytes .number ≡ 0 → ⊥) → facts N (step N w bytes .table) ≡ facts N w
@@ -30,7 +31,8 @@ module _ (N : Numbers) (s : Sound N) where
 
     ruled : Dec (step N w bytes .number ≡ 0) → Table N (step N w bytes .table)
     ruled (no n) = subst (Table N) (sym (kept n .0)) t
-    ruled (yes e) = ⊎-elim (λ i. insertion-table N s w bytes t i e) (λ d. deletion-table N s w bytes t d (formed e)) (known-operation (decoded bytes) (formed e .operation))
+    ruled (yes e) = ⊎-elim (λ i. insertion-table N s w bytes t i e) (λ d. deletion-table N s w bytes t d (formed e))
+        (known-operation (decoded bytes) (formed e .operation))
 
     pub after : After N w bytes
     after = record {
@@ -65,5 +67,8 @@ pub run-append : (N : Numbers) (l m : List (List ℕ)) (w : List ℕ) → (run N
 unfolding run
 run-append N [] m w = (refl, refl, refl)
 run-append N (b ∷ l) m w =
-    let r = run-append N l m (step N w b .table) in
-    (r .0, ap {B = List ℕ} (λ v. step N w b .number ∷ v) (r .1), ap {B = List ℕ} (λ v. step N w b .added ∷ step N w b .removed ∷ v) (r .2))
+    let r = run-append N l m (step N w b .table) in (
+      r .0,
+      ap {B = List ℕ} (λ v. step N w b .number ∷ v) (r .1),
+      ap {B = List ℕ} (λ v. step N w b .added ∷ step N w b .removed ∷ v) (r .2),
+    )

@@ -54,33 +54,45 @@ one-fits K f a b d e g = record {
 }
 
 -- a fact of kind 1, 3, 4, 5 or 9
-quiet-fits : (K : List Fact) (f : Fact) → (kind f ≡ 2 → ⊥) → (kind f ≡ 6 → ⊥) → (kind f ≡ 7 → ⊥) → (kind f ≡ 8 → ⊥) → (kind f ≡ 10 → ⊥) → Fits K (f ∷ [])
+quiet-fits : (K : List Fact) (f : Fact) → (kind f ≡ 2 → ⊥) → (kind f ≡ 6 → ⊥) → (kind f ≡ 7 → ⊥) → (kind f ≡ 8 → ⊥)
+    → (kind f ≡ 10 → ⊥) → Fits K (f ∷ [])
 quiet-fits K f a b d e g = one-fits K f a d e (λ x y p. absurd (b (ap kind (sym p)))) (λ x y z p. absurd (g (ap kind (sym p))))
 
 property-fits : (K : List Fact) (a b c : ℕ) → Fits K (pr a ∷ dom a b ∷ rng a c ∷ [])
 property-fits K a b c = record {
   n8 = λ x y h. absurd (out 6 (psub x y) refl (⊎-elim (λ e. omega arith) (⊎-elim (λ e. omega arith) (λ e. omega arith))) h);
-  n9 = λ x y h. ⊎-elim (λ e. absurd (omega (arith, ap kind e))) (λ k. ⊎-elim (λ e. here (ap pr (ap first e))) (λ m. absurd (omega (arith, ap kind (in-one m)))) (in-cons k)) (in-cons h);
-  n10 = λ x y h. ⊎-elim (λ e. absurd (omega (arith, ap kind e))) (λ k. ⊎-elim (λ e. absurd (omega (arith, ap kind e))) (λ m. here (ap pr (ap first (in-one m)))) (in-cons k)) (in-cons h);
+  n9 = λ x y h. ⊎-elim (λ e. absurd (omega (arith, ap kind e))) (λ k. ⊎-elim (λ e. here (ap pr (ap first e)))
+      (λ m. absurd (omega (arith, ap kind (in-one m)))) (in-cons k)) (in-cons h);
+  n10 = λ x y h. ⊎-elim (λ e. absurd (omega (arith, ap kind e))) (λ k. ⊎-elim (λ e. absurd (omega (arith, ap kind e)))
+      (λ m. here (ap pr (ap first (in-one m)))) (in-cons k)) (in-cons h);
   n12 = λ x y z h. absurd (out 10 (pi x y z) refl (⊎-elim (λ e. omega arith) (⊎-elim (λ e. omega arith) (λ e. omega arith))) h);
-  n15 = λ x h. ⊎-elim (λ e. ((b, there (here (ap (λ q. dom q b) (ap first e)))), (c, there (there (here (ap (λ q. rng q c) (ap first e))))))) (λ k. ⊎-elim (λ e. absurd (omega (arith, ap kind e))) (λ m. absurd (omega (arith, ap kind (in-one m)))) (in-cons k)) (in-cons h);
+  n15 = λ x h. ⊎-elim (λ e. (
+    (b, there (here (ap (λ q. dom q b) (ap first e)))),
+    (c, there (there (here (ap (λ q. rng q c) (ap first e))))),
+  )) (λ k. ⊎-elim (λ e. absurd (omega (arith, ap kind e)))
+      (λ m. absurd (omega (arith, ap kind (in-one m)))) (in-cons k)) (in-cons h);
 }
   where
     out : (k : ℕ) (f : Fact) → kind f ≡ k → ((k ≡ 2) ⊎ ((k ≡ 7) ⊎ (k ≡ 8)) → ⊥) → f ∈ (pr a ∷ dom a b ∷ rng a c ∷ []) → ⊥
-    out k f q n h = n (⊎-elim (λ e. inl (sym q ∙ ap kind e)) (λ m. inr (⊎-elim (λ e. inl (sym q ∙ ap kind e)) (λ o. inr (sym q ∙ ap kind (in-one o))) (in-cons m))) (in-cons h))
+    out k f q n h = n (⊎-elim (λ e. inl (sym q ∙ ap kind e))
+        (λ m. inr (⊎-elim (λ e. inl (sym q ∙ ap kind e)) (λ o. inr (sym q ∙ ap kind (in-one o))) (in-cons m))) (in-cons h))
 
-asked-fits : (K : List Fact) (o k a b c : ℕ) → k ∈ ticketKinds → ((p : ℕ) → Uses (ticketOf o k a b c) p → pr p ∈ K) → Fits K (asked (ticketOf o k a b c))
-asked-fits K o k a b c h = by-kind (λ k. ((p : ℕ) → Uses (ticketOf o k a b c) p → pr p ∈ K) → Fits K (asked (ticketOf o k a b c))) k h
+asked-fits : (K : List Fact) (o k a b c : ℕ) → k ∈ ticketKinds → ((p : ℕ) → Uses (ticketOf o k a b c) p → pr p ∈ K)
+    → Fits K (asked (ticketOf o k a b c))
+asked-fits K o k a b c h = by-kind (λ k. ((p : ℕ) → Uses (ticketOf o k a b c) p → pr p ∈ K) → Fits K (asked (ticketOf o k a b c)))
+    k h
     (λ u. quiet-fits K (cl a) (omega arith) (omega arith) (omega arith) (omega arith) (omega arith))
     (λ u. property-fits K a b c)
     (λ u. quiet-fits K (ind a) (omega arith) (omega arith) (omega arith) (omega arith) (omega arith))
     (λ u. quiet-fits K (lit a) (omega arith) (omega arith) (omega arith) (omega arith) (omega arith))
     (λ u. quiet-fits K (csub a b) (omega arith) (omega arith) (omega arith) (omega arith) (omega arith))
     (λ u. one-fits K (psub a b) (omega arith) (omega arith) (omega arith)
-    (λ x y e. (u x (inl (refl, inl (ap first e))), u y (inl (refl, inr (ap second e))))) (λ x y z e. absurd (omega (arith, ap kind e))))
+    (λ x y e. (u x (inl (refl, inl (ap first e))), u y (inl (refl, inr (ap second e)))))
+    (λ x y z e. absurd (omega (arith, ap kind e))))
     (λ u. quiet-fits K (ci a b) (omega arith) (omega arith) (omega arith) (omega arith) (omega arith))
     (λ u. one-fits K (pi a b c) (omega arith) (omega arith) (omega arith)
     (λ x y e. absurd (omega (arith, ap kind e))) (λ x y z e. u z (inr (refl, ap third e))))
 
-pub asked-seeds : (K : List Fact) (t : Ticket) → Consistent (graph K) → t .kind ∈ ticketKinds → ((p : ℕ) → Uses t p → pr p ∈ K) → Seeds (addAll K (asked t))
+pub asked-seeds : (K : List Fact) (t : Ticket) → Consistent (graph K) → t .kind ∈ ticketKinds → ((p : ℕ) → Uses t p → pr p ∈ K)
+    → Seeds (addAll K (asked t))
 asked-seeds K t c h u = seeds K (asked t) c (asked-fits K (t .operation) (t .kind) (t .a) (t .b) (t .c) h u)

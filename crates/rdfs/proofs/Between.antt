@@ -1,5 +1,5 @@
--- Links of one kind are a strict order: what is under an id, what lies between two, and what goes with the link from one to the other.
--- Assumes nothing.
+-- Links of one kind are a strict order: what is under an id, what lies between two, and what goes with the link from one to the
+-- other. Assumes nothing.
 use Prim.Native.Nat.{ℕ}
 use mathlib.Core.Path.{_≡_, sym, subst}
 use mathlib.Core.Logic.{_⊎_, inl, inr}
@@ -60,6 +60,7 @@ module _ (R : ℕ → ℕ → Type 0) (s : Strict R) where
   between-below a b x h (inr p) = p .1
 
   -- Links that keep those from a, but for the one to b, have none from between to b.
-  pub between-lost : (a b x : ℕ) (Q : ℕ → ℕ → Type 0) → Strict Q → (Q a b → ⊥) → ((y : ℕ) → R a y → (y ≡ b → ⊥) → Q a y) → Between R a b x → Q x b → ⊥
+  pub between-lost : (a b x : ℕ) (Q : ℕ → ℕ → Type 0) → Strict Q → (Q a b → ⊥) → ((y : ℕ) → R a y → (y ≡ b → ⊥) → Q a y)
+      → Between R a b x → Q x b → ⊥
   between-lost a b x Q q without kept (inl e) h = without (subst (λ z. Q z b) e h)
   between-lost a b x Q q without kept (inr p) h = without (q .trans a x b (kept x (p .0) (strict-differ x b (p .1))) h)

@@ -32,14 +32,26 @@ abbrev expected : Done
 expected = record {
   numbers = 0 ∷ 0 ∷ 0 ∷ 0 ∷ 10 ∷ 0 ∷ 0 ∷ 10 ∷ 9 ∷ 8 ∷ 10 ∷ 7 ∷ [];
   counts = 2 ∷ 0 ∷ 3 ∷ 0 ∷ 4 ∷ 0 ∷ 0 ∷ 2 ∷ 0 ∷ 0 ∷ 3 ∷ 0 ∷ 5 ∷ 0 ∷ 0 ∷ 0 ∷ 0 ∷ 0 ∷ 0 ∷ 0 ∷ 0 ∷ 0 ∷ 0 ∷ 0 ∷ [];
-  table = 0x01000000 ∷ 0x01020000 ∷ 0x01030000 ∷ 0x02050000 ∷ 0x03040000 ∷ 0x03060000 ∷ 0x04070000 ∷ 0x05020000 ∷ 0x05030000 ∷ 0x05030200
+  table = 0x01000000 ∷ 0x01020000 ∷ 0x01030000 ∷ 0x02050000 ∷ 0x03040000 ∷ 0x03060000 ∷ 0x04070000 ∷ 0x05020000 ∷ 0x05030000 ∷
+      0x05030200
       ∷ 0x07050200 ∷ 0x08050100 ∷ 0x09040000 ∷ 0x09060000 ∷ 0x09060200 ∷ 0x0a060705 ∷ replicate 2032 0;
 }
 
 -- The twelve tickets as one list; a table of 2 words refuses P1 with 11, one of 3 takes it.
 pub cases :
     (register product (fresh product 2048) tickets ≡ expected)
-    × (step product (fresh product 2) (1 ∷ 1 ∷ 2 ∷ 0 ∷ 0 ∷ []) ≡ record { number = 11; added = 0; removed = 0; table = 0x01000000 ∷ 0 ∷ [] })
-    × (step product (fresh product 3) (1 ∷ 1 ∷ 2 ∷ 0 ∷ 0 ∷ []) ≡ record { number = 0; added = 2; removed = 0; table = 0x01000000 ∷ 0x01020000 ∷ 0x05020000 ∷ [] })
-unfolding by18 by20 by22 by23 by24 by25 by26 by27 needs bars unequal existsFor consistent? closure insertion goes deletion step run register
+    × (step product (fresh product 2) (1 ∷ 1 ∷ 2 ∷ 0 ∷ 0 ∷ []) ≡ record {
+      number = 11;
+      added = 0;
+      removed = 0;
+      table = 0x01000000 ∷ 0 ∷ [];
+    })
+    × (step product (fresh product 3) (1 ∷ 1 ∷ 2 ∷ 0 ∷ 0 ∷ []) ≡ record {
+      number = 0;
+      added = 2;
+      removed = 0;
+      table = 0x01000000 ∷ 0x01020000 ∷ 0x05020000 ∷ [];
+    })
+unfolding by18 by20 by22 by23 by24 by25 by26 by27 needs bars unequal existsFor consistent? closure insertion goes deletion step
+    run register
 cases = (refl, refl, refl)

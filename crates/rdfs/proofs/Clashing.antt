@@ -17,14 +17,23 @@ use Rattle.rdfs.proofs.Parts.{Forbids, All}
 
 not-mixed : (z w : ℕ) → (T (mixed z w) → ⊥) → (z ≡ 1 → w ≡ 1) × (w ≡ 1 → z ≡ 1)
 not-mixed z w n = (
-  (λ e. elim (ℕ-discrete w 1) [ yes p ↦ p | no q ↦ absurd (n (either-or (eqb z 1 && not (eqb w 1)) _ (inl (both-and (eqb z 1) (not (eqb w 1)) (subst (λ m. T (eqb m 1)) (sym e) tt) (differs w 1 q))))) ]),
-  (λ e. elim (ℕ-discrete z 1) [ yes p ↦ p | no q ↦ absurd (n (either-or (eqb z 1 && not (eqb w 1)) (not (eqb z 1) && eqb w 1) (inr (both-and (not (eqb z 1)) (eqb w 1) (differs z 1 q) (subst (λ m. T (eqb m 1)) (sym e) tt))))) ]),
+  (λ e. elim (ℕ-discrete w 1) [
+    | yes p ↦ p
+    | no q ↦ absurd (n (either-or (eqb z 1 && not (eqb w 1)) _
+        (inl (both-and (eqb z 1) (not (eqb w 1)) (subst (λ m. T (eqb m 1)) (sym e) tt) (differs w 1 q)))))
+  ]),
+  (λ e. elim (ℕ-discrete z 1) [
+    | yes p ↦ p
+    | no q ↦ absurd (n (either-or (eqb z 1 && not (eqb w 1)) (not (eqb z 1) && eqb w 1)
+        (inr (both-and (not (eqb z 1)) (eqb w 1) (differs z 1 q) (subst (λ m. T (eqb m 1)) (sym e) tt)))))
+  ]),
 )
 
 -- A list with no clash breaks no rule that forbids.
 module _ (C : List Fact) (free : T (clashes C) → ⊥) where
   no-bar : (f g : Fact) → f ∈ C → g ∈ bars f → g ∈ C → ⊥
-  no-bar f g h m k = free (in-any (clash C) h (either-or (any (has C) (bars f)) (unequal C f) (inl (in-any (has C) m (in-has C g k)))))
+  no-bar f g h m k =
+      free (in-any (clash C) h (either-or (any (has C) (bars f)) (unequal C f) (inl (in-any (has C) m (in-has C g k)))))
 
   no-unequal : (f : Fact) → f ∈ C → T (unequal C f) → ⊥
   no-unequal f h t = free (in-any (clash C) h (either-or (any (has C) (bars f)) (unequal C f) (inr t)))
@@ -42,15 +51,22 @@ module _ (C : List Fact) (free : T (clashes C) → ⊥) where
     f17 = λ x y z h k. one-value y z (λ t. no-unequal (rng x y) h (in-any (λ f. not (eqb y (second f))) (to-a C k) t));
     f19 = λ x y h k. no-bar (csub x y) (csub y x) h (here refl) k;
     f21 = λ x y h k. no-bar (psub x y) (psub y x) h (here refl) k;
-    fh2 = λ x h. ((λ k. no-bar (cl x) (lit x) k (there (there (here refl))) h), (λ k. no-bar (pr x) (lit x) k (there (here refl)) h), (λ k. no-bar (ind x) (lit x) k (here refl) h));
-    fh4 = λ x y z w h k m. not-mixed z w (λ t. no-unequal (psub x y) h (in-any (λ f. any (λ g. mixed (second f) (second g)) (withA C 8 y)) (to-a C k) (in-any (λ g. mixed z (second g)) (to-a C m) t)));
+    fh2 = λ x h. (
+      (λ k. no-bar (cl x) (lit x) k (there (there (here refl))) h),
+      (λ k. no-bar (pr x) (lit x) k (there (here refl)) h),
+      (λ k. no-bar (ind x) (lit x) k (here refl) h),
+    );
+    fh4 = λ x y z w h k m. not-mixed z w (λ t. no-unequal (psub x y) h
+        (in-any (λ f. any (λ g. mixed (second f) (second g)) (withA C 8 y)) (to-a C k) (in-any (λ g. mixed z (second g))
+        (to-a C m) t)));
   }
 
 -- A list with a clash lies in no graph that keeps the rules that forbid.
 module _ (C : List Fact) (G : Graph) (p : Forbids G) (inG : All G C) where
   bar-none : (f g : Fact) → G f → g ∈ bars f → G g → ⊥
   unfolding bars
-  bar-none (cl x) g h m k = ⊎-elim (λ e. p .f4 x h (subst G e k)) (λ m. ⊎-elim (λ e. p .f5 x h (subst G e k)) (λ m. p .fh2 x (subst G (in-one m) k) .0 h) (in-cons m)) (in-cons m)
+  bar-none (cl x) g h m k = ⊎-elim (λ e. p .f4 x h (subst G e k)) (λ m. ⊎-elim (λ e. p .f5 x h (subst G e k))
+      (λ m. p .fh2 x (subst G (in-one m) k) .0 h) (in-cons m)) (in-cons m)
   bar-none (pr x) g h m k = ⊎-elim (λ e. p .f6 x h (subst G e k)) (λ m. p .fh2 x (subst G (in-one m) k) .1 h) (in-cons m)
   bar-none (ind x) g h m k = p .fh2 x (subst G (in-one m) k) .2 h
   bar-none (lit x) g h m k = none-in m
@@ -91,6 +107,7 @@ module _ (C : List Fact) (G : Graph) (p : Forbids G) (inG : All G C) where
   clash-none t =
       let r = any-in (clash C) C t in
       ⊎-elim
-      (λ a. let s = any-in (has C) (bars (r .0)) a in bar-none (r .0) (s .0) (inG _ (r .1)) (s .1) (inG _ (has-in C (s .0) (s .2))))
+      (λ a. let s = any-in (has C) (bars (r .0)) a in bar-none (r .0) (s .0) (inG _ (r .1)) (s .1) (inG _ (has-in
+      C (s .0) (s .2))))
       (λ b. unequal-none (r .0) (inG _ (r .1)) b)
       (or-either (any (has C) (bars (r .0))) (unequal C (r .0)) (r .2))

@@ -1,4 +1,5 @@
--- The cut of a list of bytes into tickets: record by record, what is short at the end; how many, and that nothing is lost. Assumes nothing.
+-- The cut of a list of bytes into tickets: record by record, what is short at the end; how many, and that nothing is lost.
+-- Assumes nothing.
 use Prim.Native.Nat.{ℕ, zero, suc, _+_, _-_, _/_, _%_, _≤_, _<_}
 use mathlib.Core.Path.{_≡_, refl, sym, ap, _∙_}
 use mathlib.Core.Bool.{cond}
@@ -29,25 +30,30 @@ module _ (n : ℕ) (some : 0 < n) where
   cut-limits (suc a) zero (x ∷ l) h k = absurd (omega arith)
   cut-limits (suc a) (suc b) [] h k = refl
   cut-limits (suc a) (suc b) (x ∷ l) h k =
-      ap (λ r. take n (x ∷ l) ∷ r) (cut-limits a b (drop n (x ∷ l)) (drop-shorter x l a (omega arith)) (drop-shorter x l b (omega arith)))
+      ap (λ r. take n (x ∷ l) ∷ r) (cut-limits a b (drop n (x ∷ l)) (drop-shorter x l a (omega arith))
+      (drop-shorter x l b (omega arith)))
 
   pub cut-more : (x : ℕ) (l : List ℕ) → cut n (x ∷ l) ≡ take n (x ∷ l) ∷ cut n (drop n (x ∷ l))
-  cut-more x l = ap (λ r. take n (x ∷ l) ∷ r) (cut-limits (length l) (length (drop n (x ∷ l))) (drop n (x ∷ l)) (drop-shorter x l (length l) (omega arith)) (omega arith))
+  cut-more x l = ap (λ r. take n (x ∷ l) ∷ r) (cut-limits (length l) (length (drop n (x ∷ l))) (drop n (x ∷ l))
+      (drop-shorter x l (length l) (omega arith)) (omega arith))
 
   -- What holds of no bytes, and of some if it holds of what is left after a record, holds of the cut.
   pub cut-induction : (P : List ℕ → List (List ℕ) → Type 0) → P [] []
-      → ((x : ℕ) (l : List ℕ) (c : List (List ℕ)) → P (drop n (x ∷ l)) c → P (x ∷ l) (take n (x ∷ l) ∷ c)) → (l : List ℕ) → P l (cut n l)
+      → ((x : ℕ) (l : List ℕ) (c : List (List ℕ)) → P (drop n (x ∷ l)) c → P (x ∷ l) (take n (x ∷ l) ∷ c)) → (l : List ℕ)
+      → P l (cut n l)
   cut-induction P none more l = go (length l) l (omega arith)
     where
       go : (limit : ℕ) (l : List ℕ) → length l ≤ limit → P l (cutWithin limit n l)
       go zero [] h = none
       go zero (x ∷ l) h = absurd (omega arith)
       go (suc limit) [] h = none
-      go (suc limit) (x ∷ l) h = more x l (cutWithin limit n (drop n (x ∷ l))) (go limit (drop n (x ∷ l)) (drop-shorter x l limit (omega arith)))
+      go (suc limit) (x ∷ l) h =
+          more x l (cutWithin limit n (drop n (x ∷ l))) (go limit (drop n (x ∷ l)) (drop-shorter x l limit (omega arith)))
 
   pub cut-record : (t l : List ℕ) → length t ≡ n → cut n (t ++ l) ≡ t ∷ cut n l
   cut-record [] l e = absurd (omega arith)
-  cut-record (x ∷ t) l e = cut-more x (t ++ l) ∙ (ap (λ r. r ∷ cut n (drop n (x ∷ t ++ l))) (take-at (x ∷ t) l n e) ∙ ap (λ r. (x ∷ t) ∷ cut n r) (drop-at (x ∷ t) l n e))
+  cut-record (x ∷ t) l e = cut-more x (t ++ l) ∙ (ap (λ r. r ∷ cut n (drop n (x ∷ t ++ l))) (take-at (x ∷ t) l n e)
+      ∙ ap (λ r. (x ∷ t) ∷ cut n r) (drop-at (x ∷ t) l n e))
 
   count-none : ticketCount n 0 ≡ 0
   count-none = rw (div-eq-of-lt some, mod-eq-of-lt some)
@@ -70,4 +76,5 @@ module _ (n : ℕ) (some : 0 < n) where
 pub cut-short : (n : ℕ) (t : List ℕ) → 0 < length t → length t ≤ n → cut n t ≡ t ∷ []
 cut-short n [] s h = absurd (omega arith)
 cut-short n (x ∷ t) s h =
-    cut-more n (omega arith) x t ∙ (ap (λ r. r ∷ cut n (drop n (x ∷ t))) (take-all n (x ∷ t) h) ∙ ap (λ r. (x ∷ t) ∷ cut n r) (drop-of-length-le (x ∷ t) h))
+    cut-more n (omega arith) x t ∙ (ap (λ r. r ∷ cut n (drop n (x ∷ t))) (take-all n (x ∷ t) h)
+    ∙ ap (λ r. (x ∷ t) ∷ cut n r) (drop-of-length-le (x ∷ t) h))

@@ -11,7 +11,16 @@ use Rattle.rdfs.specs.Deletion.{fallsWithClass}
 use Rattle.rdfs.proofs.Tests.{Tests, tests-or, tests-eq}
 use Rattle.rdfs.proofs.Facts.{tests-has}
 use Rattle.rdfs.proofs.Gone.{Downward, Part, Goes}
-use Rattle.rdfs.proofs.Roles.{Role, Mentions, tests-any-of, class-alone, property-alone, individual-alone, literal-alone, mentions-none}
+use Rattle.rdfs.proofs.Roles.{
+  Role,
+  Mentions,
+  tests-any-of,
+  class-alone,
+  property-alone,
+  individual-alone,
+  literal-alone,
+  mentions-none,
+}
 
 -- Ids that may fall: not rdfs:Resource, not the mark, and with a domain or a range its properties.
 pub record Fallen (G : Graph) (S : ℕ → Type 0) : Type 0 where
@@ -50,7 +59,8 @@ mentions-downward G S s = record {
 }
 
 -- What mentions a fallen id goes, if no part that lacks the asked fact gives such an id a role.
-mentions-goes : (G : Graph) (asked : Fact) (kept : Graph) (S : ℕ → Type 0) → Fallen G S → Mentions S asked → ((f : Fact) → kept f → ⊥)
+mentions-goes : (G : Graph) (asked : Fact) (kept : Graph) (S : ℕ → Type 0) → Fallen G S → Mentions S asked
+    → ((f : Fact) → kept f → ⊥)
     → ((H : Graph) → Part G asked kept H → (x : ℕ) → S x → Role H x → ⊥) → Goes G asked kept (Mentions S)
 mentions-goes G asked kept S s m none no-role = record {
   downward = mentions-downward G S s;
@@ -76,7 +86,8 @@ module _ (G : Graph) (c : Consistent G) (a : ℕ) (not-0 : a ≡ 0 → ⊥) (not
     class-fallen = record {
       no-resource = ⊎-elim (λ e. not-0 (sym e)) (class-stays 0 (c .rule-h1));
       no-mark = ⊎-elim (λ e. not-1 (sym e)) (λ o. mark (falls-property 1 o));
-      domain = λ p y d. ⊎-elim (λ e. inr (inl (subst (λ z. G (dom p z)) e d))) (λ o. absurd (class-stays y (c .rule-9 p y d .1) o));
+      domain =
+          λ p y d. ⊎-elim (λ e. inr (inl (subst (λ z. G (dom p z)) e d))) (λ o. absurd (class-stays y (c .rule-9 p y d .1) o));
       range = λ p y r. ⊎-elim (λ e. inr (inr (subst (λ z. G (rng p z)) e r)))
           (λ o. absurd (class-stays y (c .rule-10 p y r .1 (λ e. mark (subst (λ z. G (pr z)) e (falls-property y o)))) o));
     }
@@ -90,11 +101,14 @@ module _ (G : Graph) (c : Consistent G) (a : ℕ) (not-0 : a ≡ 0 → ⊥) (not
         let y : ℕ = ends .0 .0 in
         let z : ℕ = ends .1 .0 in
         p .without (⊎-elim
-        (λ d. p .consistent .rule-9 x a (subst (λ y. H (dom x y)) (c .rule-16 x y a (p .within _ (ends .0 .1)) d) (ends .0 .1)) .1)
-        (λ m. p .consistent .rule-10 x a (subst (λ z. H (rng x z)) (c .rule-17 x z a (p .within _ (ends .1 .1)) m) (ends .1 .1)) .1 not-1) o)
+        (λ d. p .consistent .rule-9 x a (subst (λ y. H (dom x y)) (c .rule-16 x y a (p .within _ (ends .0 .1)) d)
+        (ends .0 .1)) .1)
+        (λ m. p .consistent .rule-10 x a (subst (λ z. H (rng x z)) (c .rule-17 x z a (p .within _ (ends .1 .1)) m)
+        (ends .1 .1)) .1 not-1) o)
 
     pub class-goes : Goes G (cl a) (keeps (cl a)) (Mentions (FallsWithClass G a))
-    class-goes = mentions-goes G (cl a) (keeps (cl a)) (FallsWithClass G a) class-fallen (inl refl) (λ f. ⊎-elim (λ k. k .0) (λ k. k .0)) (class-no-role (keeps (cl a)))
+    class-goes = mentions-goes G (cl a) (keeps (cl a)) (FallsWithClass G a) class-fallen (inl refl) (λ f.
+        ⊎-elim (λ k. k .0) (λ k. k .0)) (class-no-role (keeps (cl a)))
 
   -- Kinds 2, 3, 4: a alone falls, and it is no class.
   alone-fallen : (G (cl a) → ⊥) → Fallen G (_≡_ a)
@@ -111,17 +125,22 @@ module _ (G : Graph) (c : Consistent G) (a : ℕ) (not-0 : a ≡ 0 → ⊥) (not
       (λ H p x e r. p .without (alone H (p .within) (subst (Role H) (sym e) r)))
 
   pub property-goes : G (pr a) → Goes G (pr a) (keeps (pr a)) (Mentions (_≡_ a))
-  property-goes h = alone-goes (pr a) refl (λ k. c .rule-4 a k h) (λ f. ⊎-elim (λ k. k .0) (λ k. k .0)) (λ H within. property-alone G H c within a h)
+  property-goes h = alone-goes (pr a) refl (λ k. c .rule-4 a k h) (λ f. ⊎-elim (λ k. k .0) (λ k. k .0))
+      (λ H within. property-alone G H c within a h)
 
   pub individual-goes : G (ind a) → Goes G (ind a) (keeps (ind a)) (Mentions (_≡_ a))
-  individual-goes h = alone-goes (ind a) refl (λ k. c .rule-5 a k h) (λ f. ⊎-elim (λ k. k .0) (λ k. k .0)) (λ H within. individual-alone G H c within a h)
+  individual-goes h = alone-goes (ind a) refl (λ k. c .rule-5 a k h) (λ f. ⊎-elim (λ k. k .0) (λ k. k .0))
+      (λ H within. individual-alone G H c within a h)
 
   pub literal-goes : G (lit a) → Goes G (lit a) (keeps (lit a)) (Mentions (_≡_ a))
-  literal-goes h = alone-goes (lit a) refl (c .rule-h2 a h .0) (λ f. ⊎-elim (λ k. k .0) (λ k. k .0)) (λ H within. literal-alone G H c within a h)
+  literal-goes h = alone-goes (lit a) refl (c .rule-h2 a h .0) (λ f. ⊎-elim (λ k. k .0) (λ k. k .0)) (λ H within. literal-alone G
+      H c within a h)
 
 -- The tests of the register.
-pub tests-falls-with-class : (K : List Fact) (a : ℕ) (f : Fact) → Tests (any (fallsWithClass K a) (ids f)) (Mentions (FallsWithClass (graph K) a) f)
-tests-falls-with-class K a f = tests-any-of (fallsWithClass K a) (FallsWithClass (graph K) a) (λ x. tests-or (tests-eq x a) (tests-or (tests-has K (dom x a)) (tests-has K (rng x a)))) (ids f)
+pub tests-falls-with-class : (K : List Fact) (a : ℕ) (f : Fact) → Tests (any (fallsWithClass K a) (ids f))
+    (Mentions (FallsWithClass (graph K) a) f)
+tests-falls-with-class K a f = tests-any-of (fallsWithClass K a) (FallsWithClass (graph K) a) (λ x. tests-or (tests-eq x a)
+    (tests-or (tests-has K (dom x a)) (tests-has K (rng x a)))) (ids f)
 
 pub tests-falls-alone : (a : ℕ) (f : Fact) → Tests (any (eqb a) (ids f)) (Mentions (_≡_ a) f)
 tests-falls-alone a f = tests-any-of (eqb a) (_≡_ a) (tests-eq a) (ids f)

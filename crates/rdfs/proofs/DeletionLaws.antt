@@ -1,4 +1,5 @@
--- What a deletion leaves is a part of the table and lacks the asked fact; where that fact is not there, it is the table. Assumes nothing.
+-- What a deletion leaves is a part of the table and lacks the asked fact; where that fact is not there, it is the table. Assumes
+-- nothing.
 use mathlib.Core.Path.{_≡_, refl}
 use mathlib.Core.Bool.{not}
 use mathlib.Core.List.{List}

@@ -17,7 +17,8 @@ digits B q r q′ r′ h h′ e =
     (p, omega (arith, ap (λ n. n * B) p, e))
   where
     no-less : (q r q′ r′ : ℕ) → r < B → r′ < B → q * B + r ≡ q′ * B + r′ → q ≤ q′
-    no-less q r q′ r′ h h′ e = elim (decLt q′ q) [ yes p ↦ absurd (omega (arith, mul-le-mul-right B p)) | no n ↦ omega (arith, n) ]
+    no-less q r q′ r′ h h′ e =
+        elim (decLt q′ q) [ yes p ↦ absurd (omega (arith, mul-le-mul-right B p)) | no n ↦ omega (arith, n) ]
 
 pub digit-bound : (B q r m : ℕ) → q < m → r < B → q * B + r < m * B
 digit-bound B q r m h k = omega (arith, mul-le-mul-right B h)
@@ -33,8 +34,10 @@ word-says B f g p q e =
     let d = digits B _ (third f) _ (third g) (p .three) (q .three) e in
     let c = digits B _ (second f) _ (second g) (p .two) (q .two) (d .0) in
     let b = digits B (kind f) (first f) (kind g) (first g) (p .one) (q .one) (c .0) in
-    sym (made-of f) ∙ (ap (λ n. made n (first f) (second f) (third f)) (b .0) ∙ (ap (λ n. made (kind g) n (second f) (third f)) (b .1)
-    ∙ (ap (λ n. made (kind g) (first g) n (third f)) (c .1) ∙ (ap (λ n. made (kind g) (first g) (second g) n) (d .1) ∙ made-of g))))
+    sym (made-of f) ∙ (ap (λ n. made n (first f) (second f) (third f)) (b .0)
+    ∙ (ap (λ n. made (kind g) n (second f) (third f)) (b .1)
+    ∙ (ap (λ n. made (kind g) (first g) n (third f)) (c .1) ∙ (ap (λ n. made (kind g) (first g) (second g) n) (d .1)
+    ∙ made-of g))))
 
 pub kind-below : (f : Fact) → kind f < 11
 kind-below (cl a) = omega arith
@@ -49,7 +52,8 @@ kind-below (ci a b) = omega arith
 kind-below (pi a b c) = omega arith
 
 pub word-bound : (B : ℕ) (f : Fact) → Below B f → word B f < 11 * B * B * B
-word-bound B f b = digit-bound B _ (third f) _ (digit-bound B _ (second f) _ (digit-bound B (kind f) (first f) 11 (kind-below f) (b .one)) (b .two)) (b .three)
+word-bound B f b = digit-bound B _ (third f) _ (digit-bound B _ (second f) _ (digit-bound B (kind f) (first f) 11 (kind-below f)
+    (b .one)) (b .two)) (b .three)
 
 kind-some : (f : Fact) → 0 < kind f
 kind-some (cl a) = omega arith

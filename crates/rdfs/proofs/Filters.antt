@@ -1,4 +1,5 @@
--- Filters: what is left if all pass or none does, over two lists, of an ascending list; what passes and what fails. Assumes nothing.
+-- Filters: what is left if all pass or none does, over two lists, of an ascending list; what passes and what fails. Assumes
+-- nothing.
 use Prim.Native.Nat.{ℕ, suc, _+_}
 use mathlib.Core.Path.{_≡_, refl, ap, _∙_}
 use mathlib.Core.Bool.{Bool, true, false, not, cond}
@@ -21,7 +22,8 @@ module _ {A : Type 0} where
 module _ {A : Type 0} (p : A → Bool) where
   pub filter-all : (l : List A) → ((x : A) → x ∈ l → T (p x)) → filter p l ≡ l
   filter-all [] h = refl
-  filter-all (x ∷ l) h = cond-yes (p x) (x ∷ filter p l) (filter p l) (h x (here refl)) ∙ ap (λ m. x ∷ m) (filter-all l (λ y k. h y (there k)))
+  filter-all (x ∷ l) h = cond-yes (p x) (x ∷ filter p l) (filter p l) (h x (here refl))
+      ∙ ap (λ m. x ∷ m) (filter-all l (λ y k. h y (there k)))
 
   pub filter-none : (l : List A) → ((x : A) → x ∈ l → T (p x) → ⊥) → filter p l ≡ []
   filter-none [] h = refl
@@ -31,7 +33,8 @@ module _ {A : Type 0} (p : A → Bool) where
   filter-append [] m = refl
   filter-append (x ∷ l) m = step (p x) (filter-append l m)
     where
-      step : (b : Bool) → filter p (l ++ m) ≡ filter p l ++ filter p m → cond b (x ∷ filter p (l ++ m)) (filter p (l ++ m)) ≡ cond b (x ∷ filter p l) (filter p l) ++ filter p m
+      step : (b : Bool) → filter p (l ++ m) ≡ filter p l ++ filter p m → cond b (x ∷ filter p (l ++ m)) (filter p (l ++ m))
+          ≡ cond b (x ∷ filter p l) (filter p l) ++ filter p m
       step true e = ap (λ r. x ∷ r) e
       step false e = e
 
@@ -41,7 +44,8 @@ module _ {A : Type 0} (p : A → Bool) where
   filter-split (x ∷ l) = step (p x) (filter-split l)
     where
       step : (b : Bool) → length (filter p l) + length (filter (λ x. not (p x)) l) ≡ length l
-          → length (cond b (x ∷ filter p l) (filter p l)) + length (cond (not b) (x ∷ filter (λ y. not (p y)) l) (filter (λ y. not (p y)) l)) ≡ suc (length l)
+          → length (cond b (x ∷ filter p l) (filter p l)) + length (cond (not b) (x ∷ filter (λ y. not (p y)) l)
+          (filter (λ y. not (p y)) l)) ≡ suc (length l)
       step true e = omega (arith, e)
       step false e = omega (arith, e)
 

@@ -1,5 +1,5 @@
--- A schema with every individual in every class, and values carried to the properties above: the graph is consistent, so it witnesses that
--- an insertion is possible. Assumes nothing.
+-- A schema with every individual in every class, and values carried to the properties above: the graph is consistent, so it
+-- witnesses that an insertion is possible. Assumes nothing.
 use Prim.Native.Nat.{ℕ}
 use mathlib.Core.Path.{_≡_, refl, subst}
 use mathlib.Core.Logic.{_⊎_, inl, inr}
@@ -73,7 +73,8 @@ module _ (G : Graph) (s : Schema G) where
     rule-20 = s .properties .trans;
     rule-21 = s .properties .apart;
     rule-22 = λ x y z w h k m. differ-le (λ x y. G (csub x y)) z w (s .domains .up x y z w h k m);
-    rule-23 = λ x y z w h k m n o p. differ-le (λ x y. G (csub x y)) z w (beside-le (λ x y. G (csub x y)) z w (s .ranges .up x y z w h k m)) n;
+    rule-23 = λ x y z w h k m n o p. differ-le (λ x y. G (csub x y)) z w (beside-le (λ x y. G (csub x y)) z w
+        (s .ranges .up x y z w h k m)) n;
     rule-24 = λ x y z w h k. (at x y z k .0, s .rule-9 z w h .1);
     rule-25 = λ x y z w h n k. (at x y z k .3 w h n, s .rule-10 z w h .1 n);
     rule-26 = λ x y z h k. (k .0, s .classes .both y z h .1);
@@ -92,7 +93,8 @@ module _ (G : Graph) (s : Schema G) where
       at x y w h = typed-up x y (h .0) w (h .2) (typed x y (h .0) (h .1))
 
 -- It holds a consistent graph that the schema and the values hold.
-pub full-holds : (G H : Graph) (Value : ℕ → ℕ → ℕ → Type 0) → Consistent G → _⊑_ G H → ((x y z : ℕ) → G (pi x y z) → Value x y z) → _⊑_ G (Full H Value)
+pub full-holds : (G H : Graph) (Value : ℕ → ℕ → ℕ → Type 0) → Consistent G → _⊑_ G H → ((x y z : ℕ) → G (pi x y z) → Value x y z)
+    → _⊑_ G (Full H Value)
 full-holds G H Value c to values (cl x) h = to _ h
 full-holds G H Value c to values (pr x) h = to _ h
 full-holds G H Value c to values (ind x) h = to _ h

@@ -34,7 +34,8 @@ link-order R Q a b o no-way = record {
       (λ p. ⊎-elim (λ q. inr (p .0, p .1, up b y z (p .2) (inr q))) (λ q. inr (p .0, p .1, q .2)) k) h;
   apart = λ x y h k. ⊎-elim
       (λ p. ⊎-elim (o .apart x y p) (λ q. no-way (q .0) (up b x a (q .2) (up x y a (inr p) (q .1)))) k)
-      (λ p. ⊎-elim (λ q. no-way (p .0) (up b y a (p .2) (up y x a (inr q) (p .1)))) (λ q. no-way (p .0) (up b y a (p .2) (q .1))) k) h;
+      (λ p. ⊎-elim (λ q. no-way (p .0) (up b y a (p .2) (up y x a (inr q) (p .1)))) (λ q. no-way (p .0) (up b y a (p .2) (q .1)))
+      k) h;
 }
   where
     up : (x y z : ℕ) → Le R x y → Le R y z → Le R x z

@@ -27,16 +27,19 @@ module _ (G H : Graph) (g : Consistent G) (c : Consistent H) (sub : _⊑_ G H) w
   pub value-impossible : (a b k : ℕ) → G (pr k) → H (pi a b k) → ValueClash G a b k → ⊥
   value-impossible a b k known h (inl o) = role-impossible individual a (c .rule-12 a b k h .0) o
   value-impossible a b k known h (inr (inl (r, inl o))) = role-impossible literal b (c .rule-h3 a b k (sub (rng k 1) r) h) o
-  value-impossible a b k known h (inr (inl (r, inr e))) = c .rule-h2 b (c .rule-h3 a b k (sub (rng k 1) r) h) .2 (subst (λ v. H (ind v)) e (c .rule-12 a b k h .0))
+  value-impossible a b k known h (inr (inl (r, inr e))) =
+      c .rule-h2 b (c .rule-h3 a b k (sub (rng k 1) r) h) .2 (subst (λ v. H (ind v)) e (c .rule-12 a b k h .0))
   value-impossible a b k known h (inr (inr (n, o))) =
       let r = g .rule-15 k known .1 in
-      role-impossible individual b (values-typed H c a b k h .3 (r .0) (sub (rng k (r .0)) (r .1)) (λ e. n (subst (λ v. G (rng k v)) e (r .1)))) o
+      role-impossible individual b (values-typed H c a b k h .3 (r .0) (sub (rng k (r .0)) (r .1))
+      (λ e. n (subst (λ v. G (rng k v)) e (r .1)))) o
 
   pub class-link-impossible : (a b : ℕ) → H (csub a b) → ClassLinkClash G a b → ⊥
   class-link-impossible a b h (inl o) = role-impossible class a (c .rule-7 a b h .0) o
   class-link-impossible a b h (inr (inl o)) = role-impossible class b (c .rule-7 a b h .1) o
   class-link-impossible a b h (inr (inr (inl e))) = order-back (λ x y. H (csub x y)) (class-strict H c) a b h (inl (sym e))
-  class-link-impossible a b h (inr (inr (inr (inl e)))) = root-highest (λ x. H (cl x)) (λ x y. H (csub x y)) (schema-of H c .classes) b (subst (λ v. H (csub v b)) e h)
+  class-link-impossible a b h (inr (inr (inr (inl e)))) =
+      root-highest (λ x. H (cl x)) (λ x y. H (csub x y)) (schema-of H c .classes) b (subst (λ v. H (csub v b)) e h)
   class-link-impossible a b h (inr (inr (inr (inr k)))) = c .rule-19 a b h (sub (csub b a) k)
 
   -- A role of what is a property elsewhere is that of a property.
@@ -55,13 +58,17 @@ module _ (G H : Graph) (g : Consistent G) (c : Consistent H) (sub : _⊑_ G H) w
       more-held G (pr a) (dom a b ∷ rng a k ∷ []) h (more-held G (dom a b) (rng a k ∷ []) d (one-held G (rng a k) r))
 
   pub property-impossible : (a b k : ℕ) → (a ≡ 1 → ⊥) → H (dom a b) → H (rng a k) → PropertyClash G a b k → ⊥
-  property-impossible a b k no-mark hd hr (n, inl o) = n (property-held a b k hd hr (is-property a (c .rule-9 a b hd .0) (o .0) (o .2)))
+  property-impossible a b k no-mark hd hr (n, inl o) =
+      n (property-held a b k hd hr (is-property a (c .rule-9 a b hd .0) (o .0) (o .2)))
   property-impossible a b k no-mark hd hr (n, inr (inl o)) = role-impossible class b (c .rule-9 a b hd .1) o
   property-impossible a b k no-mark hd hr (n, inr (inr (inl (m, o)))) = role-impossible class k (c .rule-10 a k hr .1 m) o
-  property-impossible a b k no-mark hd hr (n, inr (inr (inr (inl e)))) = c .rule-4 b (c .rule-9 a b hd .1) (subst (λ v. H (pr v)) e (c .rule-9 a b hd .0))
-  property-impossible a b k no-mark hd hr (n, inr (inr (inr (inr e)))) = c .rule-4 k (c .rule-10 a k hr .1 (λ m. no-mark (e ∙ m))) (subst (λ v. H (pr v)) e (c .rule-9 a b hd .0))
+  property-impossible a b k no-mark hd hr (n, inr (inr (inr (inl e)))) =
+      c .rule-4 b (c .rule-9 a b hd .1) (subst (λ v. H (pr v)) e (c .rule-9 a b hd .0))
+  property-impossible a b k no-mark hd hr (n, inr (inr (inr (inr e)))) =
+      c .rule-4 k (c .rule-10 a k hr .1 (λ m. no-mark (e ∙ m))) (subst (λ v. H (pr v)) e (c .rule-9 a b hd .0))
 
-  module _ (a b da db ra rb : ℕ) (at-da : G (dom a da)) (at-db : G (dom b db)) (at-ra : G (rng a ra)) (at-rb : G (rng b rb)) (h : H (psub a b)) where
+  module _ (a b da db ra rb : ℕ) (at-da : G (dom a da)) (at-db : G (dom b db)) (at-ra : G (rng a ra)) (at-rb : G (rng b rb))
+      (h : H (psub a b)) where
     abbrev Sub : ℕ → ℕ → Type 0
     Sub x y = H (csub x y)
 
@@ -89,4 +96,5 @@ module _ (G H : Graph) (g : Consistent G) (c : Consistent H) (sub : _⊑_ G H) w
     property-link-impossible (inr (inr (inr (inl (n, k))))) = cycle da db domains n (old db da (inr k))
     property-link-impossible (inr (inr (inr (inr (inl (n, k)))))) = cycle ra rb (beside-le Sub ra rb ranges) n (old rb ra (inr k))
     property-link-impossible (inr (inr (inr (inr (inr (n, (m, (k, l)))))))) =
-        cycle da db domains n (le-trans Sub classes db ra da (old db ra k) (le-trans Sub classes ra rb da (beside-le Sub ra rb ranges) (old rb da l)))
+        cycle da db domains n (le-trans Sub classes db ra da (old db ra k) (le-trans Sub classes ra rb da
+        (beside-le Sub ra rb ranges) (old rb da l)))

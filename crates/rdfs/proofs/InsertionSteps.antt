@@ -1,5 +1,5 @@
--- An insertion on a consistent table: accepted, it leaves the smallest graph; refused with 10, there is none; with its facts all there, it
--- changes nothing. Assumes nothing.
+-- An insertion on a consistent table: accepted, it leaves the smallest graph; refused with 10, there is none; with its facts all
+-- there, it changes nothing. Assumes nothing.
 use Prim.Native.Nat.{ℕ, _≤_, _<_}
 use mathlib.Core.Path.{_≡_, refl, sym, ap, subst, _∙_}
 use mathlib.Core.Bool.{Bool, true, false, not}
@@ -55,7 +55,8 @@ module _ (N : Numbers) (s : Sound N) (w bytes : List ℕ) (t : Table N w) (i : T
   pub new-is : new N w bytes ≡ inserted
   new-is = pick (inserts (decoded bytes)) i
     where
-      pick : (b : Bool) → T b → elim b as (λ _. List Fact) [ true ↦ inserted | false ↦ deletion K (named (decoded bytes)) ] ≡ inserted
+      pick : (b : Bool) → T b → elim b as (λ _. List Fact) [ true ↦ inserted | false ↦ deletion K (named (decoded bytes)) ]
+          ≡ inserted
       pick true h = refl
       pick false h = absurd h
 
@@ -67,18 +68,22 @@ module _ (N : Numbers) (s : Sound N) (w bytes : List ℕ) (t : Table N w) (i : T
     new-allowed = insertion-allowed (N .top) K ask (table-allowed N s w t) ask-allowed
 
     -- without a clash, the insertion is the smallest
-    free-smallest : (T (unknownProperty K (decoded bytes)) → ⊥) → (T (clashes inserted) → ⊥) → Smallest (graph K) (graph ask) (graph inserted)
+    free-smallest : (T (unknownProperty K (decoded bytes)) → ⊥) → (T (clashes inserted) → ⊥)
+        → Smallest (graph K) (graph ask) (graph inserted)
     free-smallest u free = insertion-smallest (N .top) K ask (table-allowed N s w t) ask-allowed
-        (asked-seeds K (decoded bytes) (t .consistent) (known-kind (decoded bytes) (f .kind)) (uses-known K (decoded bytes) i u)) free
+        (asked-seeds K (decoded bytes) (t .consistent) (known-kind (decoded bytes) (f .kind)) (uses-known K (decoded bytes) i u))
+        free
 
     -- Past refusal 9, the answer is 10 exactly if no consistent graph holds the table and the asked facts.
     pub refused-impossible : step N w bytes .number ≡ 10 → Possible (graph K) (graph ask) → ⊥
     refused-impossible e p =
         let c = refused-10 N w bytes (sym (step-number N w bytes) ∙ e) .3 in
-        let q : T (clashes inserted) = subst (λ L. T (clashes L)) new-is (and-both (inserts (decoded bytes)) (clashes (new N w bytes)) c .1) in
+        let q : T (clashes inserted) =
+        subst (λ L. T (clashes L)) new-is (and-both (inserts (decoded bytes)) (clashes (new N w bytes)) c .1) in
         insertion-clash (N .top) K ask (table-allowed N s w t) ask-allowed q (p .0) (p .1) (p .2) (p .3)
 
-    pub impossible-refused : (T (unknownProperty K (decoded bytes)) → ⊥) → (step N w bytes .number ≡ 10 → ⊥) → PossibleUpTo (N .top) (graph K) (graph ask)
+    pub impossible-refused : (T (unknownProperty K (decoded bytes)) → ⊥) → (step N w bytes .number ≡ 10 → ⊥)
+        → PossibleUpTo (N .top) (graph K) (graph ask)
     impossible-refused u n =
         let clash-refused : T (clashes inserted) → ⊥ = λ c. n (step-number N w bytes ∙ refuse-10 N w bytes (table-sane N w t) f u
         (both-and (inserts (decoded bytes)) (clashes (new N w bytes)) i (subst (λ L. T (clashes L)) (sym new-is) c))) in
@@ -86,13 +91,20 @@ module _ (N : Numbers) (s : Sound N) (w bytes : List ℕ) (t : Table N w) (i : T
         (graph inserted, m .consistent, m .holds-table, m .holds-asked, new-allowed)
 
   -- Refused with 11: no table of as many words holds a consistent graph with the table's facts and the asked ones.
-  pub eleven-impossible : step N w bytes .number ≡ 11 → (v : List ℕ) → Table N v → length v ≡ length w → _⊑_ (graph K) (graph (facts N v)) → _⊑_ (graph ask) (graph (facts N v)) → ⊥
+  pub eleven-impossible : step N w bytes .number ≡ 11 → (v : List ℕ) → Table N v → length v ≡ length w
+      → _⊑_ (graph K) (graph (facts N v)) → _⊑_ (graph ask) (graph (facts N v)) → ⊥
   eleven-impossible e v tv same holds-table holds-asked =
       let r = refused-11 N w bytes (sym (step-number N w bytes) ∙ e) in
-      let free : T (clashes inserted) → ⊥ = λ c. r .3 (both-and (inserts (decoded bytes)) (clashes (new N w bytes)) i (subst (λ L. T (clashes L)) (sym new-is) c)) in
-      let within : inserted ⊆ facts N v = free-smallest (r .1) (r .2) free .least (graph (facts N v)) (tv .consistent) holds-table holds-asked in
-      let many : length w < length (words N inserted) = subst (λ L. length w < length (words N L)) new-is (ltb→lt (length w) (length (words N (new N w bytes))) (r .4)) in
-      let few : length (words N inserted) ≤ length (words N (facts N v)) = sub-length (words N (facts N v)) (words N inserted) (sort-ascending (map (word (N .base)) (facts N v))) (sort-ascending (map (word (N .base)) inserted)) (words-sub N inserted (facts N v) within) in
+      let free : T (clashes inserted) → ⊥ =
+      λ c. r .3 (both-and (inserts (decoded bytes)) (clashes (new N w bytes)) i (subst (λ L. T (clashes L)) (sym new-is)
+      c)) in
+      let within : inserted ⊆ facts N v =
+      free-smallest (r .1) (r .2) free .least (graph (facts N v)) (tv .consistent) holds-table holds-asked in
+      let many : length w < length (words N inserted) =
+      subst (λ L. length w < length (words N L)) new-is (ltb→lt (length w) (length (words N (new N w bytes))) (r .4)) in
+      let few : length (words N inserted) ≤ length (words N (facts N v)) =
+      sub-length (words N (facts N v)) (words N inserted) (sort-ascending (map (word (N .base)) (facts N v)))
+      (sort-ascending (map (word (N .base)) inserted)) (words-sub N inserted (facts N v) within) in
       omega (arith, same, many, few, filter-split (λ x. not (eqb x 0)) v, ap length (laid-words N v (tv .laid)))
 
   -- Accepted.
@@ -101,12 +113,15 @@ module _ (N : Numbers) (s : Sound N) (w bytes : List ℕ) (t : Table N w) (i : T
     p = passed N w bytes (sym (step-number N w bytes) ∙ e)
 
     smallest : Smallest (graph K) (graph ask) (graph inserted)
-    smallest = free-smallest (p .formed) (p .known) (λ c. p .possible (both-and (inserts (decoded bytes)) (clashes (new N w bytes)) i (subst (λ L. T (clashes L)) (sym new-is) c)))
+    smallest = free-smallest (p .formed) (p .known)
+        (λ c. p .possible (both-and (inserts (decoded bytes)) (clashes (new N w bytes)) i (subst (λ L. T (clashes L)) (sym new-is)
+        c)))
 
     table-is : step N w bytes .table ≡ padded (length w) (words N inserted)
     table-is = accepted-leaves N w bytes e .table ∙ ap (λ L. padded (length w) (words N L)) new-is
 
-    both-ways : (facts N (padded (length w) (words N inserted)) ⊆ inserted) × (inserted ⊆ facts N (padded (length w) (words N inserted)))
+    both-ways : (facts N (padded (length w) (words N inserted)) ⊆ inserted)
+        × (inserted ⊆ facts N (padded (length w) (words N inserted)))
     both-ways = facts-padded N s (length w) inserted (new-allowed (p .formed))
 
     -- An accepted insertion leaves the smallest consistent graph that holds the table and the asked facts.
@@ -121,4 +136,5 @@ module _ (N : Numbers) (s : Sound N) (w bytes : List ℕ) (t : Table N w) (i : T
     -- It removes nothing.
     pub insertion-grows : step N w bytes .removed ≡ 0
     insertion-grows = accepted-leaves N w bytes e .removed ∙ besides-none (words N (new N w bytes)) (filled w)
-        (λ x h. subst (λ L. x ∈ words N L) (sym new-is) (words-sub N K inserted (smallest .holds-table) x (subst (λ v. x ∈ v) (sym (laid-words N w (t .laid))) h)))
+        (λ x h. subst (λ L. x ∈ words N L) (sym new-is) (words-sub N K inserted (smallest .holds-table) x
+        (subst (λ v. x ∈ v) (sym (laid-words N w (t .laid))) h)))

@@ -47,7 +47,8 @@ filled-before l m h =
     let some : ℕ → Bool = λ x. not (eqb x 0) in
     let words-stay : filled l ≡ l = filter-all some l (λ x k. differs x 0 (λ e. omega (arith, e, h x k))) in
     let zeros-go : filled (replicate m 0) ≡ [] = filter-none some (replicate m 0) (λ x k t. differ t (in-zeros m x k)) in
-    filter-append some l (replicate m 0) ∙ (ap (λ r. r ++ filled (replicate m 0)) words-stay ∙ (ap (λ r. l ++ r) zeros-go ∙ append-nil l))
+    filter-append some l (replicate m 0) ∙ (ap (λ r. r ++ filled (replicate m 0)) words-stay ∙ (ap (λ r. l ++ r) zeros-go
+    ∙ append-nil l))
 
 padded-none : (n : ℕ) → padded n [] ≡ replicate n 0
 padded-none n = ap (λ m. replicate m 0) (sub-zero n)
@@ -66,9 +67,11 @@ laid-out N least [] t = record { within = λ x h. absurd (none-in h); ascending 
 laid-out N least (x ∷ w) t = step (eqb x 0) refl (laid-out N (suc x) w) t
   where
     step : (b : Bool) → eqb x 0 ≡ b → (T (laidOut N (suc x) w) → Laid N (suc x) w (filled w))
-        → T (cond b (all (λ y. eqb y 0) w) (leb least x && (isFact N x && laidOut N (suc x) w))) → Laid N least (x ∷ w) (cond (not b) (x ∷ filled w) (filled w))
+        → T (cond b (all (λ y. eqb y 0) w) (leb least x && (isFact N x && laidOut N (suc x) w)))
+        → Laid N least (x ∷ w) (cond (not b) (x ∷ filled w) (filled w))
     step true e r u =
-        let zero-in : (y : ℕ) → y ∈ (x ∷ w) → y ≡ 0 = λ y h. ⊎-elim (λ q. q ∙ eqb-true x 0 e) (λ k. eqb→eq y 0 (all-in (λ z. eqb z 0) u k)) (in-cons h) in
+        let zero-in : (y : ℕ) → y ∈ (x ∷ w) → y ≡ 0 =
+        λ y h. ⊎-elim (λ q. q ∙ eqb-true x 0 e) (λ k. eqb→eq y 0 (all-in (λ z. eqb z 0) u k)) (in-cons h) in
         let none : filled w ≡ [] = filter-none (λ y. not (eqb y 0)) w (λ y h t. differ t (zero-in y (there h))) in
         subst (Laid N least (x ∷ w)) (sym none) record {
           within = λ y h. absurd (none-in h);
@@ -80,7 +83,8 @@ laid-out N least (x ∷ w) t = step (eqb x 0) refl (laid-out N (suc x) w) t
         let q = and-both (isFact N x) (laidOut N (suc x) w) (p .1) in
         let rest = r (q .1) in
         let from : least ≤ x = leb→le least x (p .0) in
-        let later : (y : ℕ) → y ∈ filled w → (least ≤ y) × T (isFact N y) = λ y k. let i = rest .within y k in (omega (arith, from, i .0), i .1) in
+        let later : (y : ℕ) → y ∈ filled w → (least ≤ y) × T (isFact N y) = λ y k. let i = rest .within y k in
+        (omega (arith, from, i .0), i .1) in
         record {
           within = λ y h. ⊎-elim (λ k. subst (λ z. (least ≤ z) × T (isFact N z)) (sym k) (from, q .0)) (later y) (in-cons h);
           ascending = ((λ y h. rest .within y h .0), rest .ascending);
@@ -97,10 +101,12 @@ laid-from N least (x ∷ l) m z a h =
     let q = h x (here refl) in
     let rest : T (laidOut N (suc x) w) = laid-from N (suc x) l m (omega arith) (a .1) (λ y k. (a .0 y k, h y (there k) .1)) in
     let tail : Bool = isFact N x && laidOut N (suc x) w in
-    let passes : T (leb least x && tail) = both-and (leb least x) tail (le→leb least x (q .0)) (both-and (isFact N x) (laidOut N (suc x) w) (q .1) rest) in
+    let passes : T (leb least x && tail) =
+    both-and (leb least x) tail (le→leb least x (q .0)) (both-and (isFact N x) (laidOut N (suc x) w) (q .1) rest) in
     subst T (sym (cond-no (eqb x 0) (all (λ y. eqb y 0) w) (leb least x && tail) (λ t. omega (arith, eqb→eq x 0 t, q .0)))) passes
 
-pub shape-laid : (N : Numbers) → Sound N → (l : List ℕ) (m : ℕ) → Ascending l → ((x : ℕ) → x ∈ l → T (isFact N x)) → T (laidOut N 1 (l ++ replicate m 0))
+pub shape-laid : (N : Numbers) → Sound N → (l : List ℕ) (m : ℕ) → Ascending l → ((x : ℕ) → x ∈ l → T (isFact N x))
+    → T (laidOut N 1 (l ++ replicate m 0))
 shape-laid N s l m a h = laid-from N 1 l m (omega arith) a (λ x k. (fact-some N s x (h x k), h x k))
 
 -- A table that is laid out.
@@ -126,7 +132,8 @@ module _ (N : Numbers) (w : List ℕ) (t : T (laidOut N 1 w)) where
 
   -- The words of its facts are its words.
   pub laid-words : words N (facts N w) ≡ filled w
-  laid-words = ascending-equal (words N (facts N w)) (filled w) (sort-ascending (map (word (N .base)) (facts N w))) laid-ascending back forth
+  laid-words = ascending-equal (words N (facts N w)) (filled w) (sort-ascending (map (word (N .base)) (facts N w))) laid-ascending
+      back forth
     where
       back : words N (facts N w) ⊆ filled w
       back x h =

@@ -1,11 +1,9 @@
--- The definitions computed: Cases. Lists: Lists, Sorted, Filters, Counts, Cut, Perms.
--- The definitions' laws: Tests; Facts, Digits, Allowed, Tables, LaidOut (facts, words, tables); Parts, Clashing, Decision (consistency);
--- TicketTests, Refusals, Steps (tickets).
--- Insertion: Needs, Closure, Seeds, InsertionSmallest, AskedSeeds, InsertionSteps, Within.
--- Deletion: Gone, Roles, DeletedIds, KindsGone, Between, Leads, DeletedLinks, DeletedMembers, DeletionLargest, DeletionLaws, DeletionSteps.
--- The clash by lookups: Hierarchy, OneRole, Schema, Full, MoreRoles, MoreLinks, LookupTests, Wanted, Possible, PossibleLinks, Impossible, LookedUp,
--- LookupClash.
--- Theorems: AfterEach, Rearrangement (a list of tickets), Theorems.
+-- The definitions computed: Cases. Lists: Lists, Sorted, Filters, Counts, Cut, Perms. The definitions' laws: Tests; Facts,
+-- Digits, Allowed, Tables, LaidOut (facts, words, tables); Parts, Clashing, Decision (consistency); TicketTests, Refusals, Steps
+-- (tickets). Insertion: Needs, Closure, Seeds, InsertionSmallest, AskedSeeds, InsertionSteps, Within. Deletion: Gone, Roles,
+-- DeletedIds, KindsGone, Between, Leads, DeletedLinks, DeletedMembers, DeletionLargest, DeletionLaws, DeletionSteps. The clash by
+-- lookups: Hierarchy, OneRole, Schema, Full, MoreRoles, MoreLinks, LookupTests, Wanted, Possible, PossibleLinks, Impossible,
+-- LookedUp, LookupClash. Theorems: AfterEach, Rearrangement (a list of tickets), Theorems.
 pub mod Cases
 pub mod Tests
 pub mod Lists

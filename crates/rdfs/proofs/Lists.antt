@@ -28,10 +28,12 @@ module _ {A : Type 0} where
 
   pub in-append : {x : A} (l : List A) {m : List A} → x ∈ (l ++ m) → (x ∈ l) ⊎ (x ∈ m)
   in-append [] h = inr h
-  in-append {x} (y ∷ l) {m} h = ⊎-elim (λ e. inl (here e)) (λ k. ⊎-elim (λ a. inl (there a)) (λ b. inr b) (in-append l {m = m} k)) (in-cons h)
+  in-append {x} (y ∷ l) {m} h = ⊎-elim (λ e. inl (here e)) (λ k. ⊎-elim (λ a. inl (there a)) (λ b. inr b) (in-append l {m = m} k))
+      (in-cons h)
 
   pub all-in : (p : A → Bool) {x : A} {l : List A} → T (all p l) → x ∈ l → T (p x)
-  all-in p {x} {l = y ∷ l} t h = ⊎-elim (λ e. subst (λ z. T (p z)) (sym e) (and-both (p y) (all p l) t .0)) (λ k. all-in p {l = l} (and-both (p y) (all p l) t .1) k) (in-cons h)
+  all-in p {x} {l = y ∷ l} t h = ⊎-elim (λ e. subst (λ z. T (p z)) (sym e) (and-both (p y) (all p l) t .0)) (λ k. all-in
+      p {l = l} (and-both (p y) (all p l) t .1) k) (in-cons h)
   all-in p {x} {l = []} t h = absurd (none-in h)
 
   pub in-all : (p : A → Bool) (l : List A) → ((x : A) → x ∈ l → T (p x)) → T (all p l)
@@ -40,21 +42,25 @@ module _ {A : Type 0} where
 
   pub any-in : (p : A → Bool) (l : List A) → T (any p l) → (x : A) × (x ∈ l) × T (p x)
   any-in p [] t = absurd t
-  any-in p (y ∷ l) t = ⊎-elim (λ a. (y, here refl, a)) (λ b. let r = any-in p l b in (r .0, there (r .1), r .2)) (or-either (p y) (any p l) t)
+  any-in p (y ∷ l) t = ⊎-elim (λ a. (y, here refl, a)) (λ b. let r = any-in p l b in
+      (r .0, there (r .1), r .2)) (or-either (p y) (any p l) t)
 
   pub in-any : (p : A → Bool) {x : A} {l : List A} → x ∈ l → T (p x) → T (any p l)
   in-any p {x} {l = y ∷ l} (here e) t = either-or (p y) (any p l) (inl (subst (λ z. T (p z)) e t))
   in-any p {x} {l = y ∷ l} (there h) t = either-or (p y) (any p l) (inr (in-any p h t))
 
-  in-filter-step : (p : A → Bool) (x y : A) (l : List A) → (x ∈ filter p l → (x ∈ l) × T (p x)) → (b : Bool) → p y ≡ b → x ∈ cond b (y ∷ filter p l) (filter p l) → (x ∈ (y ∷ l)) × T (p x)
-  in-filter-step p x y l ih true e k = ⊎-elim (λ q. (here q, subst (λ z. T (p z)) (sym q) (subst T (sym e) tt))) (λ m. let r = ih m in (there (r .0), r .1)) (in-cons k)
+  in-filter-step : (p : A → Bool) (x y : A) (l : List A) → (x ∈ filter p l → (x ∈ l) × T (p x)) → (b : Bool) → p y ≡ b
+      → x ∈ cond b (y ∷ filter p l) (filter p l) → (x ∈ (y ∷ l)) × T (p x)
+  in-filter-step p x y l ih true e k = ⊎-elim (λ q. (here q, subst (λ z. T (p z)) (sym q) (subst T (sym e) tt))) (λ m. let r =
+      ih m in (there (r .0), r .1)) (in-cons k)
   in-filter-step p x y l ih false e k = let r = ih k in (there (r .0), r .1)
 
   pub in-filter : (p : A → Bool) {x : A} (l : List A) → x ∈ filter p l → (x ∈ l) × T (p x)
   in-filter p [] h = absurd (none-in h)
   in-filter p {x} (y ∷ l) h = in-filter-step p x y l (in-filter p l) (p y) refl h
 
-  filter-in-step : (p : A → Bool) (x y : A) (l : List A) → T (p x) → (x ∈ l → x ∈ filter p l) → (b : Bool) → p y ≡ b → (x ≡ y) ⊎ (x ∈ l) → x ∈ cond b (y ∷ filter p l) (filter p l)
+  filter-in-step : (p : A → Bool) (x y : A) (l : List A) → T (p x) → (x ∈ l → x ∈ filter p l) → (b : Bool) → p y ≡ b → (x ≡ y)
+      ⊎ (x ∈ l) → x ∈ cond b (y ∷ filter p l) (filter p l)
   filter-in-step p x y l t ih true e (inl q) = here q
   filter-in-step p x y l t ih true e (inr m) = there (ih m)
   filter-in-step p x y l t ih false e (inl q) = absurd (subst T e (subst (λ z. T (p z)) q t))
@@ -75,7 +81,8 @@ module _ {A B : Type 0} where
 
   pub in-concatMap : (f : A → List B) {y : B} (l : List A) → y ∈ concatMap f l → (x : A) × (x ∈ l) × (y ∈ f x)
   in-concatMap f [] h = absurd (none-in h)
-  in-concatMap f (x ∷ l) h = ⊎-elim (λ e. (x, here refl, e)) (λ k. let r = in-concatMap f l k in (r .0, there (r .1), r .2)) (in-append (f x) h)
+  in-concatMap f (x ∷ l) h = ⊎-elim (λ e. (x, here refl, e)) (λ k. let r = in-concatMap f l k in
+      (r .0, there (r .1), r .2)) (in-append (f x) h)
 
   pub concatMap-in : (f : A → List B) {x : A} {y : B} {l : List A} → x ∈ l → y ∈ f x → y ∈ concatMap f l
   concatMap-in f {y = y} (here {l = l} e) h = in-append-left (concatMap f l) (subst (λ w. y ∈ f w) e h)

@@ -1,5 +1,5 @@
--- The clash by lookups is exact for every kind of ticket: it is found if and only if no consistent graph holds the table and the asked
--- facts. Assumes nothing.
+-- The clash by lookups is exact for every kind of ticket: it is found if and only if no consistent graph holds the table and the
+-- asked facts. Assumes nothing.
 use Prim.Native.Nat.{ℕ}
 use mathlib.Core.Path.{_≡_, refl}
 use mathlib.Core.Bool.{Bool}
@@ -10,7 +10,17 @@ use Rattle.rdfs.specs.Lists.{_∈_, here, there}
 use Rattle.rdfs.specs.Facts.{Fact, Graph, pr, csub, psub, rng, ci, pi, graph, _⊑_}
 use Rattle.rdfs.specs.Consistency.{Consistent}
 use Rattle.rdfs.specs.Tickets.{Ticket, asked, propertyFacts, ticketOf}
-use Rattle.rdfs.specs.Lookups.{otherRole, domainOf, rangeOf, propertyClash, classLinkClash, propertyLinkClash, memberClash, valueClash, lookupClash}
+use Rattle.rdfs.specs.Lookups.{
+  otherRole,
+  domainOf,
+  rangeOf,
+  propertyClash,
+  classLinkClash,
+  propertyLinkClash,
+  memberClash,
+  valueClash,
+  lookupClash,
+}
 use Rattle.rdfs.specs.Orders.{Uses}
 use Rattle.rdfs.specs.Promises.{Judged, Possible}
 use Rattle.rdfs.proofs.Tests.{Tests, differ, tests-decides}
@@ -18,19 +28,34 @@ use Rattle.rdfs.proofs.Facts.{in-list, tests-all-has}
 use Rattle.rdfs.proofs.TicketTests.{by-kind, given-ids}
 use Rattle.rdfs.proofs.OneRole.{RoleName, class, individual, literal, is, roleKind, tests-other-role}
 use Rattle.rdfs.proofs.LookedUp.{domain-in, range-in}
-use Rattle.rdfs.proofs.LookupTests.{tests-property-clash, tests-class-link-clash, tests-property-link-clash, tests-member-clash, tests-value-clash}
+use Rattle.rdfs.proofs.LookupTests.{
+  tests-property-clash,
+  tests-class-link-clash,
+  tests-property-link-clash,
+  tests-member-clash,
+  tests-value-clash,
+}
 use Rattle.rdfs.proofs.Possible.{role-possible, member-possible, value-possible, property-possible}
 use Rattle.rdfs.proofs.PossibleLinks.{class-link-possible, property-link-possible}
-use Rattle.rdfs.proofs.Impossible.{role-impossible, member-impossible, value-impossible, property-impossible, class-link-impossible, property-link-impossible}
+use Rattle.rdfs.proofs.Impossible.{
+  role-impossible,
+  member-impossible,
+  value-impossible,
+  property-impossible,
+  class-link-impossible,
+  property-link-impossible,
+}
 
 -- A test finds a clash of a table with wanted facts exactly where there is one.
 pub record Exact (K wanted : List Fact) (clash : Bool) : Type 1 where
   pub sound : T clash → (H : Graph) → Consistent H → _⊑_ (graph K) H → _⊑_ (graph wanted) H → ⊥
   pub complete : (T clash → ⊥) → Possible (graph K) (graph wanted)
 
-exact-of : (K wanted : List Fact) (clash : Bool) (P : Type 0) → Tests clash P → ((H : Graph) → Consistent H → _⊑_ (graph K) H → _⊑_ (graph wanted) H → P → ⊥)
+exact-of : (K wanted : List Fact) (clash : Bool) (P : Type 0) → Tests clash P → ((H : Graph) → Consistent H → _⊑_ (graph K) H
+    → _⊑_ (graph wanted) H → P → ⊥)
     → ((P → ⊥) → Possible (graph K) (graph wanted)) → Exact K wanted clash
-exact-of K wanted clash P t no-way way = record { sound = λ h H c k w. no-way H c k w (t .sound h); complete = λ n. way (λ p. n (t .complete p)) }
+exact-of K wanted clash P t no-way way =
+    record { sound = λ h H c k w. no-way H c k w (t .sound h); complete = λ n. way (λ p. n (t .complete p)) }
 
 module _ (K : List Fact) (c : Consistent (graph K)) where
   role-exact : (r : RoleName) (a : ℕ) → (2 ≡ roleKind r → ⊥) → Exact K (is r a ∷ []) (otherRole K (roleKind r) a)
@@ -43,10 +68,12 @@ module _ (K : List Fact) (c : Consistent (graph K)) where
 
   value-exact : (a b z : ℕ) → pr z ∈ K → Exact K (pi a b z ∷ []) (valueClash K a b z)
   value-exact a b z h = exact-of K (pi a b z ∷ []) (valueClash K a b z) _ (tests-value-clash K a b z)
-      (λ H d k w. value-impossible (graph K) H c d k a b z h (w _ (here refl))) (value-possible (graph K) c a b z (in-list K (rng z 1)) h)
+      (λ H d k w. value-impossible (graph K) H c d k a b z h (w _ (here refl))) (value-possible (graph K) c a b z
+      (in-list K (rng z 1)) h)
 
   property-exact : (o a b z : ℕ) → (a ≡ 1 → ⊥) → Exact K (propertyFacts a b z) (propertyClash K (ticketOf o 2 a b z))
-  property-exact o a b z n = exact-of K (propertyFacts a b z) (propertyClash K (ticketOf o 2 a b z)) _ (tests-property-clash K o a b z)
+  property-exact o a b z n =
+      exact-of K (propertyFacts a b z) (propertyClash K (ticketOf o 2 a b z)) _ (tests-property-clash K o a b z)
       (λ H d k w. property-impossible (graph K) H c d k a b z n (w _ (there (here refl))) (w _ (there (there (here refl)))))
       (property-possible (graph K) c a b z (tests-decides (tests-all-has K (propertyFacts a b z))))
 
@@ -61,8 +88,10 @@ module _ (K : List Fact) (c : Consistent (graph K)) where
       let ra : ℕ = rangeOf K a in
       let rb : ℕ = rangeOf K b in
       exact-of K (psub a b ∷ []) (propertyLinkClash K a b) _ (tests-property-link-clash K a b)
-      (λ H d k w. property-link-impossible (graph K) H c d k a b da db ra rb (domain-in K c a ha) (domain-in K c b hb) (range-in K c a ha) (range-in K c b hb) (w _ (here refl)))
-      (property-link-possible (graph K) c a b da db ra rb (domain-in K c a ha) (domain-in K c b hb) (range-in K c a ha) (range-in K c b hb))
+      (λ H d k w. property-link-impossible (graph K) H c d k a b da db ra rb (domain-in K c a ha) (domain-in K c b hb) (range-in
+      K c a ha) (range-in K c b hb) (w _ (here refl)))
+      (property-link-possible (graph K) c a b da db ra rb (domain-in K c a ha) (domain-in K c b hb) (range-in K c a ha) (range-in
+      K c b hb))
 
 module _ (top : ℕ) (K : List Fact) (t : Ticket) (j : Judged top K t) where
   pub lookup-clash-exact : Exact K (asked t) (lookupClash K t)
@@ -90,12 +119,15 @@ module _ (top : ℕ) (K : List Fact) (t : Ticket) (j : Judged top K t) where
       c = j .consistent
 
       Goal : ℕ → Type 1
-      Goal k = let u : Ticket = ticketOf (t .operation) k a b z in ((p : ℕ) → Uses u p → pr p ∈ K) → Exact K (asked u) (lookupClash K u)
+      Goal k = let u : Ticket = ticketOf (t .operation) k a b z in
+          ((p : ℕ) → Uses u p → pr p ∈ K) → Exact K (asked u) (lookupClash K u)
 
 -- A clash that the lookups find is real.
-pub lookup-clash-sound : (top : ℕ) (K : List Fact) (t : Ticket) → Judged top K t → T (lookupClash K t) → (H : Graph) → Consistent H → _⊑_ (graph K) H → _⊑_ (graph (asked t)) H → ⊥
+pub lookup-clash-sound : (top : ℕ) (K : List Fact) (t : Ticket) → Judged top K t → T (lookupClash K t) → (H : Graph)
+    → Consistent H → _⊑_ (graph K) H → _⊑_ (graph (asked t)) H → ⊥
 lookup-clash-sound top K t j = lookup-clash-exact top K t j .sound
 
 -- Where they find none, some consistent graph holds the table and the asked facts.
-pub lookup-clash-complete : (top : ℕ) (K : List Fact) (t : Ticket) → Judged top K t → (T (lookupClash K t) → ⊥) → (H : Graph) × Consistent H × _⊑_ (graph K) H × _⊑_ (graph (asked t)) H
+pub lookup-clash-complete : (top : ℕ) (K : List Fact) (t : Ticket) → Judged top K t → (T (lookupClash K t) → ⊥) → (H : Graph)
+    × Consistent H × _⊑_ (graph K) H × _⊑_ (graph (asked t)) H
 lookup-clash-complete top K t j = lookup-clash-exact top K t j .complete

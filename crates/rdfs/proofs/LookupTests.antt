@@ -5,7 +5,17 @@ use mathlib.Core.Logic.{_⊎_}
 use mathlib.Core.List.{List}
 use Rattle.rdfs.specs.Facts.{Fact, Graph, csub, psub, rng, graph, _⊑_}
 use Rattle.rdfs.specs.Clashes.{mixed}
-use Rattle.rdfs.specs.Lookups.{domainOf, rangeOf, backwards, cycleOfTwo, propertyClash, classLinkClash, propertyLinkClash, memberClash, valueClash}
+use Rattle.rdfs.specs.Lookups.{
+  domainOf,
+  rangeOf,
+  backwards,
+  cycleOfTwo,
+  propertyClash,
+  classLinkClash,
+  propertyLinkClash,
+  memberClash,
+  valueClash,
+}
 use Rattle.rdfs.specs.Tickets.{propertyFacts, ticketOf}
 use Rattle.rdfs.proofs.Tests.{Tests, tests-and, tests-or, tests-not, tests-eq, tests-cond}
 use Rattle.rdfs.proofs.Facts.{tests-has, tests-all-has}
@@ -46,13 +56,15 @@ PropertyLinkClash G a b da db ra rb =
 
 module _ (K : List Fact) where
   tests-mixed : (z w : ℕ) → Tests (mixed z w) (Mixed z w)
-  tests-mixed z w = tests-or (tests-and (tests-eq z 1) (tests-not (tests-eq w 1))) (tests-and (tests-not (tests-eq z 1)) (tests-eq w 1))
+  tests-mixed z w =
+      tests-or (tests-and (tests-eq z 1) (tests-not (tests-eq w 1))) (tests-and (tests-not (tests-eq z 1)) (tests-eq w 1))
 
   tests-backwards : (x y : ℕ) → Tests (backwards K x y) (Backwards (graph K) x y)
   tests-backwards x y = tests-and (tests-not (tests-eq x y)) (tests-has K (csub y x))
 
   tests-cycle : (x y z w : ℕ) → Tests (cycleOfTwo K x y z w) (CycleOfTwo (graph K) x y z w)
-  tests-cycle x y z w = tests-and (tests-not (tests-eq x y)) (tests-and (tests-not (tests-eq z w)) (tests-and (tests-under K 5 z y) (tests-under K 5 x w)))
+  tests-cycle x y z w = tests-and (tests-not (tests-eq x y)) (tests-and (tests-not (tests-eq z w))
+      (tests-and (tests-under K 5 z y) (tests-under K 5 x w)))
 
   pub tests-property-clash : (o a b c : ℕ) → Tests (propertyClash K (ticketOf o 2 a b c)) (PropertyClash (graph K) a b c)
   tests-property-clash o a b c = tests-and (tests-not (tests-all-has K (propertyFacts a b c)))
@@ -60,9 +72,11 @@ module _ (K : List Fact) where
       (tests-or (tests-and (tests-not (tests-eq c 1)) (tests-other-role K 1 c)) (tests-or (tests-eq a b) (tests-eq a c)))))
 
   pub tests-class-link-clash : (a b : ℕ) → Tests (classLinkClash K a b) (ClassLinkClash (graph K) a b)
-  tests-class-link-clash a b = tests-or (tests-other-role K 1 a) (tests-or (tests-other-role K 1 b) (tests-or (tests-eq a b) (tests-or (tests-eq a 0) (tests-has K (csub b a)))))
+  tests-class-link-clash a b = tests-or (tests-other-role K 1 a) (tests-or (tests-other-role K 1 b)
+      (tests-or (tests-eq a b) (tests-or (tests-eq a 0) (tests-has K (csub b a)))))
 
-  pub tests-property-link-clash : (a b : ℕ) → Tests (propertyLinkClash K a b) (PropertyLinkClash (graph K) a b (domainOf K a) (domainOf K b) (rangeOf K a) (rangeOf K b))
+  pub tests-property-link-clash : (a b : ℕ) → Tests (propertyLinkClash K a b) (PropertyLinkClash (graph K) a b (domainOf K a)
+      (domainOf K b) (rangeOf K a) (rangeOf K b))
   tests-property-link-clash a b =
       let da : ℕ = domainOf K a in
       let db : ℕ = domainOf K b in

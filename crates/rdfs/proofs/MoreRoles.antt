@@ -1,5 +1,5 @@
--- Ids with new roles put into a schema: classes with their link to Resource, individuals, literals, and properties with a domain and a range.
--- Assumes nothing.
+-- Ids with new roles put into a schema: classes with their link to Resource, individuals, literals, and properties with a domain
+-- and a range. Assumes nothing.
 use Prim.Native.Nat.{ℕ}
 use mathlib.Core.Path.{_≡_, refl, sym, subst, _∙_}
 use mathlib.Core.Logic.{_⊎_, inl, inr, ⊎-elim}
@@ -47,14 +47,17 @@ pub record Fits (G : Graph) (New : ℕ → ℕ → Type 0) (d r : ℕ) : Type 0 
   pub range : (x : ℕ) → New 2 x → (r ≡ 1 → ⊥) → New 1 r
 
 -- Classes more, each below Resource.
-classes-more : (Cl New : ℕ → Type 0) (CSub : ℕ → ℕ → Type 0) → Classes Cl CSub → Classes (λ x. Cl x ⊎ New x) (λ x y. CSub x y ⊎ (New x × (y ≡ 0) × (x ≡ 0 → ⊥)))
+classes-more : (Cl New : ℕ → Type 0) (CSub : ℕ → ℕ → Type 0) → Classes Cl CSub → Classes (λ x. Cl x ⊎ New x) (λ x y. CSub x y
+    ⊎ (New x × (y ≡ 0) × (x ≡ 0 → ⊥)))
 classes-more Cl New CSub s = record {
-  both = λ x y. ⊎-elim (λ h. (inl (s .both x y h .0), inl (s .both x y h .1))) (λ q. (inr (q .0), inl (subst Cl (sym (q .1)) (s .root))));
+  both = λ x y. ⊎-elim (λ h. (inl (s .both x y h .0), inl (s .both x y h .1)))
+      (λ q. (inr (q .0), inl (subst Cl (sym (q .1)) (s .root))));
   root = inl (s .root);
   below-root = λ x h n. ⊎-elim (λ k. inl (s .below-root x k n)) (λ k. inr (k, refl, n)) h;
   order = record {
     trans = λ x y z h k. ⊎-elim
-        (λ p. ⊎-elim (λ q. inl (s .order .trans x y z p q)) (λ q. inl (subst (CSub x) (sym (q .1)) (s .below-root x (s .both x y p .0) (λ e. top x y e p)))) k)
+        (λ p. ⊎-elim (λ q. inl (s .order .trans x y z p q))
+        (λ q. inl (subst (CSub x) (sym (q .1)) (s .below-root x (s .both x y p .0) (λ e. top x y e p)))) k)
         (λ p. ⊎-elim (λ q. absurd (top y z (p .1) q)) (λ q. absurd (q .2 (p .1))) k) h;
     apart = λ x y h k. ⊎-elim
         (λ p. ⊎-elim (s .order .apart x y p) (λ q. top x y (q .1) p) k)
@@ -66,7 +69,8 @@ classes-more Cl New CSub s = record {
     top x z e h = root-highest Cl CSub s z (subst (λ v. CSub v z) e h)
 
 -- Properties more, each with the end e.
-ends-more : (Pr New : ℕ → Type 0) (PSub End Rises Rises′ : ℕ → ℕ → Type 0) (e : ℕ) → Ends Pr PSub End Rises → ((x y : ℕ) → Rises x y → Rises′ x y)
+ends-more : (Pr New : ℕ → Type 0) (PSub End Rises Rises′ : ℕ → ℕ → Type 0) (e : ℕ) → Ends Pr PSub End Rises
+    → ((x y : ℕ) → Rises x y → Rises′ x y)
     → ((x y : ℕ) → PSub x y → Pr x × Pr y) → ((x y : ℕ) → End x y → Pr x) → ((x : ℕ) → New x → Pr x → ⊥)
     → Ends (λ x. Pr x ⊎ New x) PSub (λ x y. End x y ⊎ (New x × (y ≡ e))) Rises′
 ends-more Pr New PSub End Rises Rises′ e s grows both has fresh = record {
@@ -91,21 +95,24 @@ module _ (G : Graph) (New : ℕ → ℕ → Type 0) (d r : ℕ) (s : Schema G) (
   roles-more : OneRole (More G New d r)
   roles-more x p q h k = ⊎-elim
       (λ a. ⊎-elim (λ b. s .roles x p q a b) (λ b. f .apart .old (roleKind q) x b p a) (role-more q x k))
-      (λ a. ⊎-elim (λ b. sym (f .apart .old (roleKind p) x a q b)) (λ b. f .apart .new (roleKind p) (roleKind q) x a b) (role-more q x k)) (role-more p x h)
+      (λ a. ⊎-elim (λ b. sym (f .apart .old (roleKind p) x a q b)) (λ b. f .apart .new (roleKind p) (roleKind q) x a b)
+      (role-more q x k)) (role-more p x h)
 
   pub more-schema : Schema (More G New d r)
   more-schema = record {
     roles = roles-more;
     classes = classes-more (λ x. G (cl x)) (New 1) (λ x y. G (csub x y)) (s .classes);
     rule-8 = λ x y h. (inl (s .rule-8 x y h .0), inl (s .rule-8 x y h .1));
-    rule-9 = λ x y. ⊎-elim (λ h. (inl (s .rule-9 x y h .0), inl (s .rule-9 x y h .1))) (λ q. (inr (q .0), inr (subst (New 1) (sym (q .1)) (f .domain x (q .0)))));
+    rule-9 = λ x y. ⊎-elim (λ h. (inl (s .rule-9 x y h .0), inl (s .rule-9 x y h .1)))
+        (λ q. (inr (q .0), inr (subst (New 1) (sym (q .1)) (f .domain x (q .0)))));
     rule-10 = λ x y. ⊎-elim
         (λ h. (inl (s .rule-10 x y h .0), λ n. inl (s .rule-10 x y h .1 n)))
         (λ q. (inr (q .0), λ n. inr (subst (New 1) (sym (q .1)) (f .range x (q .0) (λ e. n (q .1 ∙ e))))));
     properties = s .properties;
     domains = ends-more (λ x. G (pr x)) (New 2) (λ x y. G (psub x y)) (λ x y. G (dom x y)) (Le Old) (Le Joined) d (s .domains)
         (le-grows Old Joined (λ x y h. inl h)) (s .rule-8) (λ x y h. s .rule-9 x y h .0) (f .fresh);
-    ranges = ends-more (λ x. G (pr x)) (New 2) (λ x y. G (psub x y)) (λ x y. G (rng x y)) (Beside Old) (Beside Joined) r (s .ranges)
+    ranges = ends-more (λ x. G (pr x)) (New 2) (λ x y. G (psub x y)) (λ x y. G (rng x y)) (Beside Old) (Beside Joined) r
+        (s .ranges)
         (beside-grows Old Joined (λ x y h. inl h)) (s .rule-8) (λ x y h. s .rule-10 x y h .0) (f .fresh);
   }
     where

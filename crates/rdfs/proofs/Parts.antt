@@ -1,11 +1,40 @@
--- Consistency in three parts: the rules that demand facts which their left side names in full, those that only forbid, and those that ask for
--- some fact. Most proofs need one part only. Assumes nothing.
+-- Consistency in three parts: the rules that demand facts which their left side names in full, those that only forbid, and those
+-- that ask for some fact. Most proofs need one part only. Assumes nothing.
 use Prim.Native.Nat.{ℕ}
 use mathlib.Core.Logic.{_⊎_, inl, inr, ⊎-elim}
 use mathlib.Core.List.{List}
 use Rattle.rdfs.specs.Lists.{_∈_}
 use Rattle.rdfs.specs.Facts.{Fact, Graph, pr, ind, lit, pi, _⊑_}
-use Rattle.rdfs.specs.Rules.{Meets, r4, r5, r6, r7, r8, r9, r10, r11, r13, r14, r15, r16, r17, r18, r19, r20, r21, r22, r23, r24, r25, r26, r27, h1, h2, h3, h4}
+use Rattle.rdfs.specs.Rules.{
+  Meets,
+  r4,
+  r5,
+  r6,
+  r7,
+  r8,
+  r9,
+  r10,
+  r11,
+  r13,
+  r14,
+  r15,
+  r16,
+  r17,
+  r18,
+  r19,
+  r20,
+  r21,
+  r22,
+  r23,
+  r24,
+  r25,
+  r26,
+  r27,
+  h1,
+  h2,
+  h3,
+  h4,
+}
 use Rattle.rdfs.specs.Consistency.{Consistent}
 
 -- Every fact of a list is one of G.

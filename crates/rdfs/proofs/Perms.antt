@@ -33,7 +33,8 @@ module _ {A : Type 0} (p : A → Bool) where
   some-count [] h = absurd (omega arith)
   some-count (y ∷ l) h = step (p y) refl (some-count l) h
     where
-      step : (b : Bool) → p y ≡ b → (0 < count p l → (x : A) × (x ∈ l) × T (p x)) → 0 < cond b 1 0 + count p l → (x : A) × (x ∈ (y ∷ l)) × T (p x)
+      step : (b : Bool) → p y ≡ b → (0 < count p l → (x : A) × (x ∈ l) × T (p x)) → 0 < cond b 1 0 + count p l → (x : A)
+          × (x ∈ (y ∷ l)) × T (p x)
       step true e r k = (y, here refl, subst T (sym e) tt)
       step false e r k = let q = r (omega arith) in (q .0, there (q .1), q .2)
 
@@ -60,5 +61,18 @@ same-tickets-length (t ∷ l) m s =
     let r = in-split (same-tickets-in (t ∷ l) m s t (here refl)) in
     let before = r .0 in
     let after = r .1 in
-    let rest : SameTickets l (before ++ after) = λ u. omega (arith, s u, ap (count (sameBytes u)) (r .2), count-append (sameBytes u) before (t ∷ after), count-append (sameBytes u) before after) in
-    omega (arith, same-tickets-length l (before ++ after) rest, ap length (r .2), length-append before (t ∷ after), length-append before after)
+    let rest : SameTickets l (before ++ after) =
+    λ u. omega (
+      arith,
+      s u,
+      ap (count (sameBytes u)) (r .2),
+      count-append (sameBytes u) before (t ∷ after),
+      count-append (sameBytes u) before after,
+    ) in
+    omega (
+      arith,
+      same-tickets-length l (before ++ after) rest,
+      ap length (r .2),
+      length-append before (t ∷ after),
+      length-append before after,
+    )

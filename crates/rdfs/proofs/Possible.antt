@@ -1,4 +1,5 @@
--- Where the lookups find no clash there is a consistent graph that holds the table and the asked facts: tickets that give roles. Assumes nothing.
+-- Where the lookups find no clash there is a consistent graph that holds the table and the asked facts: tickets that give roles.
+-- Assumes nothing.
 use Prim.Native.Nat.{ℕ}
 use mathlib.Core.Path.{_≡_, refl, sym, subst}
 use mathlib.Core.Logic.{_⊎_, inl, inr, ⊎-elim}
@@ -31,17 +32,26 @@ Values G x y z = G (pi x y z)
 
 module _ (G : Graph) (c : Consistent G) where
   -- A larger schema in which the values stay typed is enough.
-  pub by-schema : (A H : Graph) → Schema H → _⊑_ G H → ((x y z : ℕ) → Typed G x y z → Typed H x y z) → _⊑_ A (Full H (Values G)) → Possible G A
-  by-schema A H s holds typed asked =
-      (Full H (Values G), full-consistent H s (Values G) (λ x y z h. typed x y z (values-typed G c x y z h)), full-holds G H (Values G) c holds (λ x y z h. h), asked)
+  pub by-schema : (A H : Graph) → Schema H → _⊑_ G H → ((x y z : ℕ) → Typed G x y z → Typed H x y z) → _⊑_ A (Full H (Values G))
+      → Possible G A
+  by-schema A H s holds typed asked = (
+    Full H (Values G),
+    full-consistent H s (Values G) (λ x y z h. typed x y z (values-typed G c x y z h)),
+    full-holds G H (Values G) c holds (λ x y z h. h),
+    asked,
+  )
 
-  by-roles : (A : Graph) (New : ℕ → ℕ → Type 0) (d r : ℕ) → Fits G New d r → _⊑_ A (Full (More G New d r) (Values G)) → Possible G A
-  by-roles A New d r f asked = by-schema A (More G New d r) (more-schema G New d r (schema-of G c) f) (more-holds G New d r) (typed-more G New d r (schema-of G c) f) asked
+  by-roles : (A : Graph) (New : ℕ → ℕ → Type 0) (d r : ℕ) → Fits G New d r → _⊑_ A (Full (More G New d r) (Values G))
+      → Possible G A
+  by-roles A New d r f asked = by-schema A (More G New d r) (more-schema G New d r (schema-of G c) f) (more-holds G New d r)
+      (typed-more G New d r (schema-of G c) f) asked
 
   -- Cl, Ind and Lit.
-  pub role-possible : (r : RoleName) (a : ℕ) → (2 ≡ roleKind r → ⊥) → (OtherRole G (roleKind r) a → ⊥) → Possible G (graph (is r a ∷ []))
+  pub role-possible : (r : RoleName) (a : ℕ) → (2 ≡ roleKind r → ⊥) → (OtherRole G (roleKind r) a → ⊥)
+      → Possible G (graph (is r a ∷ []))
   role-possible r a not-property free =
-      by-roles (graph (is r a ∷ [])) New 0 0 (two-fit G (roleKind r) a (roleKind r) a free free (λ e. refl) not-property not-property)
+      by-roles (graph (is r a ∷ [])) New 0 0 (two-fit G (roleKind r) a (roleKind r) a free free (λ e. refl) not-property
+      not-property)
       (one-held (Full (More G New 0 0) (Values G)) (is r a) (held r (wants-first (roleKind r) a (roleKind r) a)))
     where
       New : ℕ → ℕ → Type 0
@@ -61,7 +71,8 @@ module _ (G : Graph) (c : Consistent G) where
       (one-held (Full (More G New 0 0) (Values G)) (ci a b) (inr (wants-first 3 a 1 b), inr (wants-second 3 a 1 b)))
 
   -- The object b of a new value gets the role of kind l.
-  by-value : (a b k l : ℕ) → Fits G (WantTwo 3 a l b) 0 0 → Typed (More G (WantTwo 3 a l b) 0 0) a b k → Possible G (graph (pi a b k ∷ []))
+  by-value : (a b k l : ℕ) → Fits G (WantTwo 3 a l b) 0 0 → Typed (More G (WantTwo 3 a l b) 0 0) a b k
+      → Possible G (graph (pi a b k ∷ []))
   by-value a b k l f t = (
     Full H Value,
     full-consistent H (more-schema G New 0 0 (schema-of G c) f) Value typed,
@@ -80,12 +91,14 @@ module _ (G : Graph) (c : Consistent G) where
 
       typed : (x y z : ℕ) → Value x y z → Typed H x y z
       typed x y z (inl h) = typed-more G New 0 0 (schema-of G c) f x y z (values-typed G c x y z h)
-      typed x y z (inr q) = subst (λ v. Typed H v y z) (sym (q .0)) (subst (λ v. Typed H a v z) (sym (q .1)) (subst (λ v. Typed H a b v) (sym (q .2)) t))
+      typed x y z (inr q) = subst (λ v. Typed H v y z) (sym (q .0)) (subst (λ v. Typed H a v z) (sym (q .1))
+          (subst (λ v. Typed H a b v) (sym (q .2)) t))
 
   pub value-possible : (a b k : ℕ) → Dec (G (rng k 1)) → G (pr k) → (ValueClash G a b k → ⊥) → Possible G (graph (pi a b k ∷ []))
   value-possible a b k d known n = elim d [
     | yes r ↦
-        let f = two-fit G 3 a 4 b (λ o. n (inl o)) (λ o. n (inr (inl (r, inl o)))) (λ e. absurd (n (inr (inl (r, inr e))))) (differ tt) (differ tt) in
+        let f = two-fit G 3 a 4 b (λ o. n (inl o)) (λ o. n (inr (inl (r, inl o)))) (λ e. absurd (n (inr (inl (r, inr e)))))
+        (differ tt) (differ tt) in
         by-value a b k 4 f (
           inr (wants-first 3 a 4 b),
           inl known,
@@ -106,7 +119,8 @@ module _ (G : Graph) (c : Consistent G) where
   new-property : (a b k : ℕ) → (NewPropertyClash G a b k → ⊥) → Possible G (graph (propertyFacts a b k))
   new-property a b k n = by-roles (graph (propertyFacts a b k)) New b k fits
       (more-held (Full H (Values G)) (pr a) (dom a b ∷ rng a k ∷ []) (inr mine)
-      (more-held (Full H (Values G)) (dom a b) (rng a k ∷ []) (inr (mine, refl)) (one-held (Full H (Values G)) (rng a k) (inr (mine, refl)))))
+      (more-held (Full H (Values G)) (dom a b) (rng a k ∷ []) (inr (mine, refl)) (one-held (Full H (Values G)) (rng a k)
+      (inr (mine, refl)))))
     where
       Range : ℕ → ℕ → Type 0
       Range = Want (k ≡ 1 → ⊥) 1 k NoRole
@@ -132,7 +146,8 @@ module _ (G : Graph) (c : Consistent G) where
       no-role r h = n (inl (r, role-some r, h))
 
       not-class : (j : ℕ) → Classes j a → 2 ≡ j
-      not-class j = ⊎-elim (λ p. absurd (n (inr (inr (inr (inl (p .2))))))) (⊎-elim (λ p. absurd (n (inr (inr (inr (inr (p .2))))))) (λ m. absurd m))
+      not-class j = ⊎-elim (λ p. absurd (n (inr (inr (inr (inl (p .2)))))))
+          (⊎-elim (λ p. absurd (n (inr (inr (inr (inr (p .2))))))) (λ m. absurd m))
 
       fresh : (x : ℕ) → New 2 x → G (pr x) → ⊥
       fresh x (inl p) h = no-role property (subst (λ v. G (pr v)) (p .2) h)
@@ -148,5 +163,6 @@ module _ (G : Graph) (c : Consistent G) where
         range = λ x m q. inr (inr (inl (q, refl, refl)));
       }
 
-  pub property-possible : (a b k : ℕ) → Dec (_⊑_ (graph (propertyFacts a b k)) G) → (PropertyClash G a b k → ⊥) → Possible G (graph (propertyFacts a b k))
+  pub property-possible : (a b k : ℕ) → Dec (_⊑_ (graph (propertyFacts a b k)) G) → (PropertyClash G a b k → ⊥)
+      → Possible G (graph (propertyFacts a b k))
   property-possible a b k d n = elim d [ yes h ↦ (G, c, (λ f m. m), h) | no m ↦ new-property a b k (λ o. n (m, o)) ]

@@ -1,5 +1,5 @@
--- Where the lookups find no clash there is a consistent graph that holds the table and the asked facts: class links and property links. Assumes
--- nothing.
+-- Where the lookups find no clash there is a consistent graph that holds the table and the asked facts: class links and property
+-- links. Assumes nothing.
 use Prim.Native.Nat.{ℕ}
 use mathlib.Core.Path.{_≡_, refl, sym, _∙_}
 use mathlib.Core.Logic.{inl, inr, ⊎-elim}
@@ -13,7 +13,14 @@ use Rattle.rdfs.proofs.Hierarchy.{Le, link-self}
 use Rattle.rdfs.proofs.Schema.{Schema, schema-of, Beside, le-differ, beside-differ}
 use Rattle.rdfs.proofs.Full.{Full}
 use Rattle.rdfs.proofs.MoreRoles.{More, more-holds, more-schema, typed-more}
-use Rattle.rdfs.proofs.MoreLinks.{ClassLink, class-link-holds, class-link-schema, PropertyLink, property-link-holds, property-link-schema}
+use Rattle.rdfs.proofs.MoreLinks.{
+  ClassLink,
+  class-link-holds,
+  class-link-schema,
+  PropertyLink,
+  property-link-holds,
+  property-link-schema,
+}
 use Rattle.rdfs.proofs.Wanted.{WantTwo, wants-first, wants-second, two-fit}
 use Rattle.rdfs.proofs.LookupTests.{ClassLinkClash, Mixed, PropertyLinkClash}
 use Rattle.rdfs.proofs.Possible.{one-held, Values, by-schema}
@@ -30,16 +37,22 @@ module _ (G : Graph) (c : Consistent G) where
       let New : ℕ → ℕ → Type 0 = WantTwo 1 a 1 b in
       let fits = two-fit G 1 a 1 b (λ o. n (inl o)) (λ o. n (inr (inl o))) (λ e. refl) (differ tt) (differ tt) in
       let J : Graph = More G New 0 0 in
-      let no-way : Le (λ x y. J (csub x y)) b a → ⊥ = ⊎-elim (λ e. n (inr (inr (inl (sym e))))) (⊎-elim (λ h. n (inr (inr (inr (inr h))))) (λ q. n (inr (inr (inr (inl (q .1))))))) in
+      let no-way : Le (λ x y. J (csub x y)) b a → ⊥ =
+      ⊎-elim (λ e. n (inr (inr (inl (sym e))))) (⊎-elim (λ h. n (inr (inr (inr (inr h)))))
+      (λ q. n (inr (inr (inr (inl (q .1))))))) in
       let H : Graph = ClassLink J (Unit {0}) a b in
-      let s : Schema H = class-link-schema J (Unit {0}) a b (more-schema G New 0 0 (schema-of G c) fits) (λ q. (inr (wants-first 1 a 1 b), inr (wants-second 1 a 1 b))) (λ q. no-way) in
-      by-schema G c (graph (csub a b ∷ [])) H s (λ f h. class-link-holds J (Unit {0}) a b f (more-holds G New 0 0 f h)) (typed-more G New 0 0 (schema-of G c) fits)
+      let s : Schema H = class-link-schema J (Unit {0}) a b (more-schema G New 0 0 (schema-of G c) fits)
+      (λ q. (inr (wants-first 1 a 1 b), inr (wants-second 1 a 1 b))) (λ q. no-way) in
+      by-schema G c (graph (csub a b ∷ [])) H s (λ f h. class-link-holds J (Unit {0}) a b f (more-holds G New 0 0 f h))
+      (typed-more G New 0 0 (schema-of G c) fits)
       (one-held (Full H (Values G)) (csub a b) (link-self (λ x y. J (csub x y)) (Unit {0}) a b tt))
 
   -- The link of the domains goes in first, then that of the ranges, each where the two differ, then the link of the properties.
-  pub property-link-possible : (a b da db ra rb : ℕ) → G (dom a da) → G (dom b db) → G (rng a ra) → G (rng b rb) → (PropertyLinkClash G a b da db ra rb → ⊥) → Possible G (graph (psub a b ∷ []))
+  pub property-link-possible : (a b da db ra rb : ℕ) → G (dom a da) → G (dom b db) → G (rng a ra) → G (rng b rb)
+      → (PropertyLinkClash G a b da db ra rb → ⊥) → Possible G (graph (psub a b ∷ []))
   property-link-possible a b da db ra rb at-da at-db at-ra at-rb n =
-      by-schema G c (graph (psub a b ∷ [])) Whole whole (λ f h. property-link-holds Second a b f (class-link-holds First Q₂ ra rb f (class-link-holds G Q₁ da db f h)))
+      by-schema G c (graph (psub a b ∷ [])) Whole whole (λ f h. property-link-holds Second a b f (class-link-holds First Q₂ ra rb
+      f (class-link-holds G Q₁ da db f h)))
       (λ x y z t. t) (one-held (Full Whole (Values G)) (psub a b) (link-self (λ x y. G (psub x y)) (Unit {0}) a b tt))
     where
       Q₁ : Type 0
@@ -72,7 +85,8 @@ module _ (G : Graph) (c : Consistent G) where
 
       second : Schema Second
       second = class-link-schema First Q₂ ra rb first range-classes
-          (λ q. ⊎-elim (λ e. q (sym e)) (⊎-elim (λ h. n (inr (inr (inr (inr (inl (q, h))))))) (λ p. n (inr (inr (inr (inr (inr (p .0, (q, (p .2, p .1)))))))))))
+          (λ q. ⊎-elim (λ e. q (sym e)) (⊎-elim (λ h. n (inr (inr (inr (inr (inl (q, h)))))))
+          (λ p. n (inr (inr (inr (inr (inr (p .0, (q, (p .2, p .1)))))))))))
 
       domains : (z w : ℕ) → G (dom a z) → G (dom b w) → Le (λ x y. Second (csub x y)) z w
       domains z w h k =

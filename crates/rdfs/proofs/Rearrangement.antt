@@ -1,5 +1,5 @@
--- A rearranged list of accepted insertions is accepted whole and ends in the same words. The idea: each list ends in a consistent graph that
--- holds what both ask for, so neither can leave it. Assumes nothing.
+-- A rearranged list of accepted insertions is accepted whole and ends in the same words. The idea: each list ends in a consistent
+-- graph that holds what both ask for, so neither can leave it. Assumes nothing.
 use Prim.Native.Nat.{ℕ, _≤_}
 use mathlib.Core.Path.{_≡_, refl, sym, ap, subst, _∙_}
 use mathlib.Core.Bool.{Bool, true, false, cond}
@@ -44,37 +44,52 @@ module _ (N : Numbers) (s : Sound N) where
     wanted : (t : List ℕ) → t ∈ l → asked (decoded t) ⊆ facts N v
     formed : (t : List ℕ) → t ∈ l → Formed N t
 
-  grown : (l : List (List ℕ)) (w : List ℕ) → Table N w → AllInsertions l → AllAccepted (run N w l .numbers) → Grown w l (run N w l .table)
+  grown : (l : List (List ℕ)) (w : List ℕ) → Table N w → AllInsertions l → AllAccepted (run N w l .numbers)
+      → Grown w l (run N w l .table)
   unfolding run
-  grown [] w t i a = record { table = t; long = refl; holds = λ f h. h; wanted = λ u h. absurd (none-in h); formed = λ u h. absurd (none-in h) }
+  grown [] w t i a = record {
+    table = t;
+    long = refl;
+    holds = λ f h. h;
+    wanted = λ u h. absurd (none-in h);
+    formed =
+        λ u h. absurd (none-in h);
+  }
   grown (b ∷ l) w t i a =
       let e : step N w b .number ≡ 0 = a _ (here refl) in
       let m = accepted-smallest N s w b t (i b (here refl)) e in
       let p : Passed N w b = passed N w b (sym (step-number N w b) ∙ e) in
-      let g : Grown (step N w b .table) l (run N (step N w b .table) l .table) = grown l (step N w b .table) (insertion-table N s w b t (i b (here refl)) e) (λ u h. i u (there h)) (λ n h. a n (there h)) in
+      let g : Grown (step N w b .table) l (run N (step N w b .table) l .table) =
+      grown l (step N w b .table) (insertion-table N s w b t (i b (here refl)) e) (λ u h. i u (there h))
+      (λ n h. a n (there h)) in
       record {
         table = g .table;
         long = g .long ∙ step-length N w b;
         holds = λ f h. g .holds f (m .holds-table f h);
-        wanted = λ u h. ⊎-elim (λ q. subst (λ v. asked (decoded v) ⊆ facts N (run N (step N w b .table) l .table)) (sym q) (λ f k. g .holds f (m .holds-asked f k))) (g .wanted u) (in-cons h);
+        wanted = λ u h. ⊎-elim (λ q. subst (λ v. asked (decoded v) ⊆ facts N (run N (step N w b .table) l .table)) (sym q)
+            (λ f k. g .holds f (m .holds-asked f k))) (g .wanted u) (in-cons h);
         formed = λ u h. ⊎-elim (λ q. subst (Formed N) (sym q) (p .formed)) (g .formed u) (in-cons h);
       }
 
   -- A run of accepted insertions stays within each consistent graph that holds its start and what it asks for.
-  stays-within : (l : List (List ℕ)) (w : List ℕ) → Table N w → AllInsertions l → AllAccepted (run N w l .numbers) → (E : List Fact) → Consistent (graph E) → facts N w ⊆ E
+  stays-within : (l : List (List ℕ)) (w : List ℕ) → Table N w → AllInsertions l → AllAccepted (run N w l .numbers)
+      → (E : List Fact) → Consistent (graph E) → facts N w ⊆ E
       → ((t : List ℕ) → t ∈ l → asked (decoded t) ⊆ E) → facts N (run N w l .table) ⊆ E
   unfolding run
   stays-within [] w t i a E c held wanted = held
   stays-within (b ∷ l) w t i a E c held wanted =
       let e : step N w b .number ≡ 0 = a _ (here refl) in
       let p : Passed N w b = passed N w b (sym (step-number N w b) ∙ e) in
-      stays-within l (step N w b .table) (insertion-table N s w b t (i b (here refl)) e) (λ u h. i u (there h)) (λ n h. a n (there h)) E c
+      stays-within l (step N w b .table) (insertion-table N s w b t (i b (here refl)) e) (λ u h. i u (there h))
+      (λ n h. a n (there h)) E c
       (accepted-inside N s w b t (i b (here refl)) (p .formed) E c held (wanted b (here refl)) e) (λ u h. wanted u (there h))
 
   -- Tickets in order that a consistent graph of the table's size can take are accepted whole.
   module _ (start : List Fact) (all : List (List ℕ)) (order : InOrder start all) (E : List Fact) (c : Consistent (graph E)) where
-    taken : (done l : List (List ℕ)) (w : List ℕ) → all ≡ done ++ l → Table N w → start ⊆ facts N w → ((u : List ℕ) → u ∈ done → asked (decoded u) ⊆ facts N w) → facts N w ⊆ E
-        → ((t : List ℕ) → t ∈ l → T (inserts (decoded t)) × Formed N t × (asked (decoded t) ⊆ E)) → length (words N E) ≤ length w → AllAccepted (run N w l .numbers)
+    taken : (done l : List (List ℕ)) (w : List ℕ) → all ≡ done ++ l → Table N w → start ⊆ facts N w
+        → ((u : List ℕ) → u ∈ done → asked (decoded u) ⊆ facts N w) → facts N w ⊆ E
+        → ((t : List ℕ) → t ∈ l → T (inserts (decoded t)) × Formed N t × (asked (decoded t) ⊆ E)) → length (words N E) ≤ length w
+        → AllAccepted (run N w l .numbers)
     unfolding run
     taken done [] w q t st dn held ok room = λ n h. absurd (none-in h)
     taken done (b ∷ l) w q t st dn held ok room =
@@ -85,31 +100,40 @@ module _ (N : Numbers) (s : Sound N) where
         ] in
         let e : step N w b .number ≡ 0 = accepted-within N s w b t (o .0) (o .1) E c held (o .2) uses room in
         let m = accepted-smallest N s w b t (o .0) e in
-        let rest = taken (done ++ (b ∷ [])) l (step N w b .table) (q ∙ sym (append-assoc done (b ∷ []) l)) (insertion-table N s w b t (o .0) e)
+        let rest = taken (done ++ (b ∷ [])) l (step N w b .table) (q ∙ sym (append-assoc done (b ∷ []) l))
+        (insertion-table N s w b t (o .0) e)
         (λ f h. m .holds-table f (st f h))
-        (λ u h. ⊎-elim (λ k f j. m .holds-table f (dn u k f j)) (λ k. subst (λ v. asked (decoded v) ⊆ facts N (step N w b .table)) (sym (in-one k)) (m .holds-asked)) (in-append done h))
-        (accepted-inside N s w b t (o .0) (o .1) E c held (o .2) e) (λ u h. ok u (there h)) (subst (λ k. length (words N E) ≤ k) (sym (step-length N w b)) room) in
+        (λ u h. ⊎-elim (λ k f j. m .holds-table f (dn u k f j)) (λ k. subst (λ v. asked (decoded v) ⊆ facts N (step N w b .table))
+        (sym (in-one k)) (m .holds-asked)) (in-append done h))
+        (accepted-inside N s w b t (o .0) (o .1) E c held (o .2) e) (λ u h. ok u (there h)) (subst (λ k. length (words N E) ≤ k)
+        (sym (step-length N w b)) room) in
         λ n h. ⊎-elim (λ z. z ∙ e) (rest n) (in-cons h)
 
   -- The theorem: the same tickets, each as often, each use of a new property after an insertion of it.
-  pub rearrangement : (w : List ℕ) → Table N w → (l m : List (List ℕ)) → AllInsertions l → AllAccepted (run N w l .numbers) → SameTickets l m → InOrder (facts N w) m
+  pub rearrangement : (w : List ℕ) → Table N w → (l m : List (List ℕ)) → AllInsertions l → AllAccepted (run N w l .numbers)
+      → SameTickets l m → InOrder (facts N w) m
       → AllAccepted (run N w m .numbers) × (run N w m .table ≡ run N w l .table)
   rearrangement w t l m i a same order =
       let to : m ⊆ l = same-tickets-in m l (same-tickets-sym l m same) in
       let from : l ⊆ m = same-tickets-in l m same in
       let v : List ℕ = run N w l .table in
       let g : Grown w l v = grown l w t i a in
-      let fits : length (words N (facts N v)) ≤ length w = subst (λ n. length (words N (facts N v)) ≤ n) (g .long) (laid-fits N v (g .table .laid)) in
-      let accepted : AllAccepted (run N w m .numbers) = taken (facts N w) m order (facts N v) (g .table .consistent) [] m w refl t (λ f h. h) (λ u h. absurd (none-in h)) (g .holds)
+      let fits : length (words N (facts N v)) ≤ length w =
+      subst (λ n. length (words N (facts N v)) ≤ n) (g .long) (laid-fits N v (g .table .laid)) in
+      let accepted : AllAccepted (run N w m .numbers) = taken (facts N w) m order (facts N v) (g .table .consistent) [] m w refl t
+      (λ f h. h) (λ u h. absurd (none-in h)) (g .holds)
       (λ u h. (i u (to u h), g .formed u (to u h), g .wanted u (to u h))) fits in
       let k : Grown w m (run N w m .table) = grown m w t (λ u h. i u (to u h)) accepted in (
         accepted,
         same-words (run N w m .table) v (k .table) (g .table) (k .long ∙ sym (g .long))
-            (stays-within m w t (λ u h. i u (to u h)) accepted (facts N v) (g .table .consistent) (g .holds) (λ u h. g .wanted u (to u h)))
-            (stays-within l w t i a (facts N (run N w m .table)) (k .table .consistent) (k .holds) (λ u h. k .wanted u (from u h))),
+            (stays-within m w t (λ u h. i u (to u h)) accepted (facts N v) (g .table .consistent) (g .holds)
+            (λ u h. g .wanted u (to u h)))
+            (stays-within l w t i a (facts N (run N w m .table)) (k .table .consistent) (k .holds)
+            (λ u h. k .wanted u (from u h))),
       )
     where
-      same-words : (u v : List ℕ) → Table N u → Table N v → length u ≡ length v → facts N u ⊆ facts N v → facts N v ⊆ facts N u → u ≡ v
+      same-words : (u v : List ℕ) → Table N u → Table N v → length u ≡ length v → facts N u ⊆ facts N v → facts N v ⊆ facts N u
+          → u ≡ v
       same-words u v p q e to from =
           laid-again N u (p .laid) ∙ (ap (padded (length u)) (words-same N (facts N u) (facts N v) to from)
           ∙ (ap (λ n. padded n (words N (facts N v))) e ∙ sym (laid-again N v (q .laid))))

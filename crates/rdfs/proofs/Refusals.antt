@@ -1,4 +1,5 @@
--- The refusals of a ticket as a chain: the number is 0 exactly if no test holds, and 10 exactly if the tenth is the first. Assumes nothing.
+-- The refusals of a ticket as a chain: the number is 0 exactly if no test holds, and 10 exactly if the tenth is the first.
+-- Assumes nothing.
 use Prim.Native.Nat.{ℕ}
 use mathlib.Core.Path.{_≡_, refl, _∙_}
 use mathlib.Core.Bool.{Bool, true, false}
@@ -9,7 +10,18 @@ use lib.Dec.{T}
 use Rattle.rdfs.specs.Numbers.{Numbers}
 use Rattle.rdfs.specs.Facts.{Fact}
 use Rattle.rdfs.specs.Words.{facts}
-use Rattle.rdfs.specs.Tickets.{Ticket, decoded, outcome, badLength, badOperation, badKind, badIds, guarded, unknownProperty, clashing}
+use Rattle.rdfs.specs.Tickets.{
+  Ticket,
+  decoded,
+  outcome,
+  badLength,
+  badOperation,
+  badKind,
+  badIds,
+  guarded,
+  unknownProperty,
+  clashing,
+}
 use Rattle.rdfs.specs.Register.{orElse, badSize, badLayout, inconsistent, tableRefusal, tooMany, ticketRefusal}
 use Rattle.rdfs.specs.Promises.{Formed}
 
@@ -54,8 +66,10 @@ module _ (N : Numbers) (w bytes : List ℕ) where
 
   pub to-9 : Sane N w → Formed N bytes → refusal ≡ after-8
   to-9 s f =
-      pass-link (badSize N w) 1 _ (s .size) ∙ (pass-link (badLayout N w) 2 _ (s .layout) ∙ (pass-link (inconsistent N w) 3 _ (s .rules)
-      ∙ (pass-link (badLength bytes) 4 _ (f .long) ∙ (pass-link (badOperation given) 5 _ (f .operation) ∙ (pass-link (badKind given) 6 _ (f .kind)
+      pass-link (badSize N w) 1 _ (s .size) ∙ (pass-link (badLayout N w) 2 _ (s .layout)
+      ∙ (pass-link (inconsistent N w) 3 _ (s .rules)
+      ∙ (pass-link (badLength bytes) 4 _ (f .long) ∙ (pass-link (badOperation given) 5 _ (f .operation)
+      ∙ (pass-link (badKind given) 6 _ (f .kind)
       ∙ (pass-link (badIds (N .top) given) 7 _ (f .ids) ∙ pass-link (guarded given) 8 _ (f .free)))))))
 
   -- An answer of 0, or of more than 8, has passed the first eight.
@@ -70,8 +84,17 @@ module _ (N : Numbers) (w bytes : List ℕ) where
       let p5 = passed-link (badOperation given) 5 _ m (no 5 (omega arith) (omega arith) (omega arith) (omega arith)) (p4 .1) in
       let p6 = passed-link (badKind given) 6 _ m (no 6 (omega arith) (omega arith) (omega arith) (omega arith)) (p5 .1) in
       let p7 = passed-link (badIds (N .top) given) 7 _ m (no 7 (omega arith) (omega arith) (omega arith) (omega arith)) (p6 .1) in
-      let p8 = passed-link (guarded given) 8 _ m (no 8 (omega arith) (omega arith) (omega arith) (omega arith)) (p7 .1) in
-      (record { size = p1 .0; layout = p2 .0; rules = p3 .0 }, record { long = p4 .0; operation = p5 .0; kind = p6 .0; ids = p7 .0; free = p8 .0 }, p8 .1)
+      let p8 = passed-link (guarded given) 8 _ m (no 8 (omega arith) (omega arith) (omega arith) (omega arith)) (p7 .1) in (
+        record { size = p1 .0; layout = p2 .0; rules = p3 .0 },
+        record {
+          long = p4 .0;
+          operation = p5 .0;
+          kind = p6 .0;
+          ids = p7 .0;
+          free = p8 .0;
+        },
+        p8 .1,
+      )
 
   -- Accepted: no test holds.
   pub record Passed : Type 0 where
@@ -90,14 +113,16 @@ module _ (N : Numbers) (w bytes : List ℕ) where
       record { sane = p .0; formed = p .1; known = p9 .0; possible = p10 .0; room = p11 .0 }
 
   pub pass : Passed → refusal ≡ 0
-  pass p = to-9 (p .sane) (p .formed) ∙ (pass-link (unknownProperty old given) 9 _ (p .known) ∙ (pass-link (clashing new given) 10 _ (p .possible) ∙ pass-link (tooMany N w new) 11 0 (p .room)))
+  pass p = to-9 (p .sane) (p .formed) ∙ (pass-link (unknownProperty old given) 9 _ (p .known)
+      ∙ (pass-link (clashing new given) 10 _ (p .possible) ∙ pass-link (tooMany N w new) 11 0 (p .room)))
 
   -- 10 is answered exactly if the tenth test is the first that holds.
   pub refused-10 : refusal ≡ 10 → Sane N w × Formed N bytes × (T (unknownProperty old given) → ⊥) × T (clashing new given)
   refused-10 e =
       let p = past-8 10 (inr (inr (inl refl))) e in
       let p9 = passed-link (unknownProperty old given) 9 _ 10 (omega arith) (p .2) in
-      let c : T (clashing new given) = ⊎-elim (λ h. h .0) (λ h. absurd (late (tooMany N w new) (h .1))) (link (clashing new given) 10 _ 10 (p9 .1)) in
+      let c : T (clashing new given) =
+      ⊎-elim (λ h. h .0) (λ h. absurd (late (tooMany N w new) (h .1))) (link (clashing new given) 10 _ 10 (p9 .1)) in
       (p .0, p .1, p9 .0, c)
     where
       late : (t : Bool) → orElse t 11 0 ≡ 10 → ⊥
@@ -108,7 +133,8 @@ module _ (N : Numbers) (w bytes : List ℕ) where
   refuse-10 s f k c = to-9 s f ∙ (pass-link (unknownProperty old given) 9 _ k ∙ stop-link (clashing new given) 10 _ c)
 
   -- 11 is answered only if the last test is the first that holds.
-  pub refused-11 : refusal ≡ 11 → Sane N w × Formed N bytes × (T (unknownProperty old given) → ⊥) × (T (clashing new given) → ⊥) × T (tooMany N w new)
+  pub refused-11 : refusal ≡ 11 → Sane N w × Formed N bytes × (T (unknownProperty old given) → ⊥) × (T (clashing new given) → ⊥)
+      × T (tooMany N w new)
   refused-11 e =
       let p = past-8 11 (inr (inr (inr refl))) e in
       let p9 = passed-link (unknownProperty old given) 9 _ 11 (omega arith) (p .2) in

@@ -1,5 +1,5 @@
--- The roles of an id: class, property, individual, literal. In a consistent graph an id has one role at most, and each id that a fact mentions
--- has one, but for the mark. Assumes nothing.
+-- The roles of an id: class, property, individual, literal. In a consistent graph an id has one role at most, and each id that a
+-- fact mentions has one, but for the mark. Assumes nothing.
 use Prim.Native.Nat.{ℕ}
 use mathlib.Core.Path.{subst}
 use mathlib.Core.Bool.{Bool}
@@ -17,7 +17,8 @@ Role G x = G (cl x) ⊎ (G (pr x) ⊎ (G (ind x) ⊎ G (lit x)))
 module _ (G H : Graph) (c : Consistent G) (within : _⊑_ H G) (x : ℕ) where
   pub class-alone : G (cl x) → Role H x → H (cl x)
   class-alone h = ⊎-elim (λ k. k)
-      (⊎-elim (λ k. absurd (c .rule-4 x h (within _ k))) (⊎-elim (λ k. absurd (c .rule-5 x h (within _ k))) (λ k. absurd (c .rule-h2 x (within _ k) .0 h))))
+      (⊎-elim (λ k. absurd (c .rule-4 x h (within _ k))) (⊎-elim (λ k. absurd (c .rule-5 x h (within _ k)))
+      (λ k. absurd (c .rule-h2 x (within _ k) .0 h))))
 
   pub property-alone : G (pr x) → Role H x → H (pr x)
   property-alone h = ⊎-elim (λ k. absurd (c .rule-4 x (within _ k) h))
@@ -30,7 +31,8 @@ module _ (G H : Graph) (c : Consistent G) (within : _⊑_ H G) (x : ℕ) where
   pub literal-alone : G (lit x) → Role H x → H (lit x)
   literal-alone h =
       let others = c .rule-h2 x h in
-      ⊎-elim (λ k. absurd (others .0 (within _ k))) (⊎-elim (λ k. absurd (others .1 (within _ k))) (⊎-elim (λ k. absurd (others .2 (within _ k))) (λ k. k)))
+      ⊎-elim (λ k. absurd (others .0 (within _ k))) (⊎-elim (λ k. absurd (others .1 (within _ k)))
+      (⊎-elim (λ k. absurd (others .2 (within _ k))) (λ k. k)))
 
 -- A member of the list is in S.
 abbrev pub AnyOf : (ℕ → Type 0) → List ℕ → Type 0
@@ -42,7 +44,8 @@ AnyOf S (x ∷ (y ∷ l)) = S x ⊎ AnyOf S (y ∷ l)
 abbrev pub Mentions : (ℕ → Type 0) → Graph
 Mentions S f = AnyOf S (ids f)
 
-pub tests-any-of : (test : ℕ → Bool) (S : ℕ → Type 0) → ((x : ℕ) → Tests (test x) (S x)) → (l : List ℕ) → Tests (any test l) (AnyOf S l)
+pub tests-any-of : (test : ℕ → Bool) (S : ℕ → Type 0) → ((x : ℕ) → Tests (test x) (S x)) → (l : List ℕ)
+    → Tests (any test l) (AnyOf S l)
 tests-any-of test S t [] = tests-none
 tests-any-of test S t (x ∷ []) = tests-as (tests-or (t x) tests-none) (⊎-elim (λ s. s) (λ e. absurd e)) inl
 tests-any-of test S t (x ∷ (y ∷ l)) = tests-or (t x) (tests-any-of test S t (y ∷ l))
@@ -69,6 +72,9 @@ module _ (H : Graph) (c : Consistent H) (S : ℕ → Type 0) (no-mark : S 1 → 
   mentions-none (csub a b) h = let q = c .rule-7 a b h in ⊎-elim (no-class a (q .0)) (no-class b (q .1))
   mentions-none (psub a b) h = let q = c .rule-8 a b h in ⊎-elim (no-property a (q .0)) (no-property b (q .1))
   mentions-none (dom a b) h = let q = c .rule-9 a b h in ⊎-elim (no-property a (q .0)) (no-class b (q .1))
-  mentions-none (rng a b) h = let q = c .rule-10 a b h in ⊎-elim (no-property a (q .0)) (λ s. no-class b (q .1 (λ e. no-mark (subst S e s))) s)
+  mentions-none (rng a b) h = let q =
+      c .rule-10 a b h in ⊎-elim (no-property a (q .0)) (λ s. no-class b (q .1 (λ e. no-mark (subst S e s))) s)
   mentions-none (ci a b) h = let q = c .rule-11 a b h in ⊎-elim (no-individual a (q .0)) (no-class b (q .1))
-  mentions-none (pi a b v) h = let q = c .rule-12 a b v h in ⊎-elim (no-individual a (q .0)) (⊎-elim (⊎-elim (no-individual b) (no-literal b) (q .2)) (no-property v (q .1)))
+  mentions-none (pi a b v) h = let q =
+      c .rule-12 a b v h in ⊎-elim (no-individual a (q .0)) (⊎-elim (⊎-elim (no-individual b) (no-literal b) (q .2))
+      (no-property v (q .1)))

@@ -1,5 +1,5 @@
--- The rules that do not speak of memberships and values, in the parts in which a graph can grow: roles, classes, properties, the ends of
--- properties. Assumes nothing.
+-- The rules that do not speak of memberships and values, in the parts in which a graph can grow: roles, classes, properties, the
+-- ends of properties. Assumes nothing.
 use Prim.Native.Nat.{ℕ}
 use mathlib.Core.Path.{_≡_, refl, sym, subst, _∙_}
 use mathlib.Core.Logic.{_⊎_, inl, inr}
@@ -53,7 +53,8 @@ pub differ-le : (R : ℕ → ℕ → Type 0) (x y : ℕ) → Le R x y → (x ≡
 differ-le R x y (inl e) n = absurd (n e)
 differ-le R x y (inr h) n = h
 
-pub beside-differ : (R : ℕ → ℕ → Type 0) (x y : ℕ) → (x ≡ 1 → y ≡ 1) → (y ≡ 1 → x ≡ 1) → ((x ≡ y → ⊥) → (x ≡ 1 → ⊥) → (y ≡ 1 → ⊥) → R x y) → Beside R x y
+pub beside-differ : (R : ℕ → ℕ → Type 0) (x y : ℕ) → (x ≡ 1 → y ≡ 1) → (y ≡ 1 → x ≡ 1) → ((x ≡ y → ⊥) → (x ≡ 1 → ⊥) → (y ≡ 1 → ⊥)
+    → R x y) → Beside R x y
 beside-differ R x y to from h = elim (ℕ-discrete x 1) [
   | yes e ↦ inl (e, to e)
   | no n ↦ let m : y ≡ 1 → ⊥ = λ e. n (from e) in inr (n, m, le-differ R x y (λ d. h d n m))
@@ -83,7 +84,8 @@ schema-of G c = record {
   ranges = record {
     some = λ x h. c .rule-15 x h .1;
     one = c .rule-17;
-    up = λ x y z w h k m. let e = c .rule-h4 x y z w h k m in beside-differ (λ x y. G (csub x y)) z w (e .0) (e .1) (c .rule-23 x y z w h k m);
+    up = λ x y z w h k m. let e = c .rule-h4 x y z w h k m in
+        beside-differ (λ x y. G (csub x y)) z w (e .0) (e .1) (c .rule-23 x y z w h k m);
   };
 }
 

@@ -20,7 +20,11 @@ ascending-equal [] (y ∷ m) p q f g = absurd (none-in (g y (here refl)))
 ascending-equal (x ∷ l) [] p q f g = absurd (none-in (f x (here refl)))
 ascending-equal (x ∷ l) (y ∷ m) p q f g =
     let e : x ≡ y = heads (in-cons (f x (here refl))) (in-cons (g y (here refl))) in
-    rw (e, ascending-equal l m (p .1) (q .1) (λ z h. tail-of z h (in-cons (f z (there h)))) (λ z h. tail-of′ z h (in-cons (g z (there h)))))
+    rw (
+      e,
+      ascending-equal l m (p .1) (q .1) (λ z h. tail-of z h (in-cons (f z (there h))))
+          (λ z h. tail-of′ z h (in-cons (g z (there h)))),
+    )
   where
     heads : (x ≡ y) ⊎ (x ∈ m) → (y ≡ x) ⊎ (y ∈ l) → x ≡ y
     heads (inl e) k = e
@@ -36,7 +40,8 @@ ascending-equal (x ∷ l) (y ∷ m) p q f g =
     tail-of′ z h (inr k) = k
 
 -- `put` by cases
-put-case : (P : List ℕ → Type 0) (x y : ℕ) (l : List ℕ) → (x < y → P (x ∷ y ∷ l)) → (x ≡ y → P (y ∷ l)) → (y < x → P (y ∷ put x l)) → P (put x (y ∷ l))
+put-case : (P : List ℕ → Type 0) (x y : ℕ) (l : List ℕ) → (x < y → P (x ∷ y ∷ l)) → (x ≡ y → P (y ∷ l))
+    → (y < x → P (y ∷ put x l)) → P (put x (y ∷ l))
 put-case P x y l a b c = go (ltb x y) refl
   where
     last : (t : Bool) → eqb x y ≡ t → ltb x y ≡ false → P (cond t (y ∷ l) (y ∷ put x l))
@@ -60,7 +65,8 @@ put-has x (y ∷ l) = put-case (λ r. x ∈ r) x y l (λ _. here refl) (λ e. he
 
 pub put-keeps : (x : ℕ) (l : List ℕ) (z : ℕ) → z ∈ l → z ∈ put x l
 put-keeps x [] z h = absurd (none-in h)
-put-keeps x (y ∷ l) z h = put-case (λ r. z ∈ r) x y l (λ _. there h) (λ _. h) (λ _. ⊎-elim (λ e. here e) (λ k. there (put-keeps x l z k)) (in-cons h))
+put-keeps x (y ∷ l) z h =
+    put-case (λ r. z ∈ r) x y l (λ _. there h) (λ _. h) (λ _. ⊎-elim (λ e. here e) (λ k. there (put-keeps x l z k)) (in-cons h))
 
 pub put-ascending : (x : ℕ) (l : List ℕ) → Ascending l → Ascending (put x l)
 put-ascending x [] a = ((λ y h. absurd (none-in h)), tt)
@@ -71,7 +77,8 @@ put-ascending x (y ∷ l) a = put-case Ascending x y l
 
 pub put-longer : (x : ℕ) (l : List ℕ) → (x ∈ l → ⊥) → length (put x l) ≡ suc (length l)
 put-longer x [] n = refl
-put-longer x (y ∷ l) n = put-case (λ r. length r ≡ suc (suc (length l))) x y l (λ _. refl) (λ e. absurd (n (here e))) (λ _. ap suc (put-longer x l (λ h. n (there h))))
+put-longer x (y ∷ l) n = put-case (λ r. length r ≡ suc (suc (length l))) x y l (λ _. refl) (λ e. absurd (n (here e)))
+    (λ _. ap suc (put-longer x l (λ h. n (there h))))
 
 pub in-sort : (l : List ℕ) (z : ℕ) → z ∈ sort l → z ∈ l
 in-sort [] z h = h
@@ -79,14 +86,16 @@ in-sort (x ∷ l) z h = ⊎-elim (λ e. here e) (λ k. there (in-sort l z k)) (i
 
 pub sort-has : (l : List ℕ) (z : ℕ) → z ∈ l → z ∈ sort l
 sort-has [] z h = h
-sort-has (x ∷ l) z h = ⊎-elim (λ e. subst (λ w. w ∈ put x (sort l)) (sym e) (put-has x (sort l))) (λ k. put-keeps x (sort l) z (sort-has l z k)) (in-cons h)
+sort-has (x ∷ l) z h = ⊎-elim (λ e. subst (λ w. w ∈ put x (sort l)) (sym e) (put-has x (sort l))) (λ k. put-keeps x (sort l) z
+    (sort-has l z k)) (in-cons h)
 
 pub sort-ascending : (l : List ℕ) → Ascending (sort l)
 sort-ascending [] = tt
 sort-ascending (x ∷ l) = put-ascending x (sort l) (sort-ascending l)
 
 -- An ascending list of numbers from lo up to hi is no longer than hi - lo.
-pub ascending-length : (l : List ℕ) (lo hi : ℕ) → Ascending l → ((y : ℕ) → y ∈ l → (lo ≤ y) × (y < hi)) → lo ≤ hi → length l + lo ≤ hi
+pub ascending-length : (l : List ℕ) (lo hi : ℕ) → Ascending l → ((y : ℕ) → y ∈ l → (lo ≤ y) × (y < hi)) → lo ≤ hi
+    → length l + lo ≤ hi
 ascending-length [] lo hi a h le = omega arith
 ascending-length (x ∷ l) lo hi a h le =
     let b = h x (here refl) in
@@ -99,6 +108,19 @@ sub-length [] [] a b s = omega arith
 sub-length [] (x ∷ l) a b s = absurd (none-in (s x (here refl)))
 sub-length (y ∷ m) [] a b s = omega arith
 sub-length (y ∷ m) (x ∷ l) a b s = elim (ℕ-discrete x y) [
-  | yes e ↦ omega (arith, sub-length m l (a .1) (b .1) (λ z h. ⊎-elim (λ q. absurd (omega (arith, b .0 z h, q, e))) (λ k. k) (in-cons (s z (there h)))))
-  | no n ↦ omega (arith, sub-length m (x ∷ l) (a .1) b (λ z h. ⊎-elim (λ q. absurd (⊎-elim (λ o. n (sym o ∙ q)) (λ k. omega (arith, b .0 z k, q, a .0 x (⊎-elim (λ o. absurd (n o)) (λ u. u) (in-cons (s x (here refl)))))) (in-cons h))) (λ k. k) (in-cons (s z h))))
+  | yes e ↦ omega (
+    arith,
+    sub-length m l (a .1) (b .1) (λ z h. ⊎-elim (λ q. absurd (omega (arith, b .0 z h, q, e))) (λ k. k)
+        (in-cons (s z (there h)))),
+  )
+  | no n ↦ omega (
+    arith,
+    sub-length m (x ∷ l) (a .1) b (λ z h.
+        ⊎-elim (λ q. absurd (⊎-elim (λ o. n (sym o ∙ q)) (λ k. omega (
+          arith,
+          b .0 z k,
+          q,
+          a .0 x (⊎-elim (λ o. absurd (n o)) (λ u. u) (in-cons (s x (here refl)))),
+        )) (in-cons h))) (λ k. k) (in-cons (s z h))),
+  )
 ]

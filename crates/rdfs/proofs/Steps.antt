@@ -14,7 +14,19 @@ use Rattle.rdfs.specs.Consistency.{Consistent}
 use Rattle.rdfs.specs.Words.{laidOut, filled, facts, words, padded}
 use Rattle.rdfs.specs.Clashes.{consistent?}
 use Rattle.rdfs.specs.Tickets.{badLength}
-use Rattle.rdfs.specs.Register.{Answer, answer, orElse, besides, step, badSize, badLayout, inconsistent, tableRefusal, tooMany, Table}
+use Rattle.rdfs.specs.Register.{
+  Answer,
+  answer,
+  orElse,
+  besides,
+  step,
+  badSize,
+  badLayout,
+  inconsistent,
+  tableRefusal,
+  tooMany,
+  Table,
+}
 use Rattle.rdfs.proofs.Tests.{or-either, either-or}
 use Rattle.rdfs.proofs.Parts.{All, consistent-same}
 use Rattle.rdfs.proofs.Allowed.{Allowed}
@@ -27,7 +39,11 @@ use Rattle.rdfs.proofs.Refusals.{Sane, new, refusal, passed, passed-lin
 -- A consistent table passes the first three refusals.
 pub table-sane : (N : Numbers) (w : List ℕ) → Table N w → Sane N w
 table-sane N w t = record {
-  size = λ h. ⊎-elim (λ q. omega (arith, leb→le (length w) 0 q, t .some)) (λ q. omega (arith, ltb→lt (N .most) (length w) q, t .fits)) (or-either (leb (length w) 0) (ltb (N .most) (length w)) h);
+  size = λ h. ⊎-elim (λ q. omega (arith, leb→le (length w) 0 q, t .some)) (λ q. omega (
+    arith,
+    ltb→lt (N .most) (length w) q,
+    t .fits,
+  )) (or-either (leb (length w) 0) (ltb (N .most) (length w)) h);
   layout = λ h. T-not (laidOut N 1 w) h (t .laid);
   rules = λ h. T-not (consistent? (facts N w)) h (check-complete (facts N w) (t .consistent));
 }
@@ -35,7 +51,8 @@ table-sane N w t = record {
 pub table-passes : (N : Numbers) (w : List ℕ) → Table N w → (rest : ℕ) → tableRefusal N w rest ≡ rest
 table-passes N w t rest =
     let s = table-sane N w t in
-    pass-link (badSize N w) 1 _ (s .size) ∙ (pass-link (badLayout N w) 2 _ (s .layout) ∙ pass-link (inconsistent N w) 3 rest (s .rules))
+    pass-link (badSize N w) 1 _ (s .size) ∙ (pass-link (badLayout N w) 2 _ (s .layout) ∙ pass-link (inconsistent N w) 3 rest
+    (s .rules))
 
 -- Words that pass them are one.
 pub checked-table : (N : Numbers) (w : List ℕ) → tableRefusal N w 0 ≡ 0 → Table N w
@@ -44,17 +61,21 @@ checked-table N w e =
     let p2 = passed-link (badLayout N w) 2 _ 0 (omega arith) (p1 .1) in
     let p3 = passed-link (inconsistent N w) 3 _ 0 (omega arith) (p2 .1) in
     record {
-      some = nleb→lt (length w) 0 (not-T (leb (length w) 0) (λ h. p1 .0 (either-or (leb (length w) 0) (ltb (N .most) (length w)) (inl h))));
-      fits = nltb→le (N .most) (length w) (not-T (ltb (N .most) (length w)) (λ h. p1 .0 (either-or (leb (length w) 0) (ltb (N .most) (length w)) (inr h))));
+      some = nleb→lt (length w) 0 (not-T (leb (length w) 0) (λ h. p1 .0 (either-or (leb (length w) 0) (ltb (N .most) (length w))
+          (inl h))));
+      fits = nltb→le (N .most) (length w) (not-T (ltb (N .most) (length w))
+          (λ h. p1 .0 (either-or (leb (length w) 0) (ltb (N .most) (length w)) (inr h))));
       laid = stands (laidOut N 1 w) (p2 .0);
       consistent = check-sound (facts N w) (stands (consistent? (facts N w)) (p3 .0));
     }
 
 -- One of them that holds is the answer, whatever comes after.
-pub table-stops : (N : Numbers) (w : List ℕ) (rest : ℕ) → (tableRefusal N w 0 ≡ 0 → ⊥) → tableRefusal N w 0 ≡ tableRefusal N w rest
+pub table-stops : (N : Numbers) (w : List ℕ) (rest : ℕ) → (tableRefusal N w 0 ≡ 0 → ⊥) → tableRefusal N w 0 ≡ tableRefusal N w
+    rest
 table-stops N w rest n = go (badSize N w) (badLayout N w) (inconsistent N w) n
   where
-    go : (a b c : Bool) → (orElse a 1 (orElse b 2 (orElse c 3 0)) ≡ 0 → ⊥) → orElse a 1 (orElse b 2 (orElse c 3 0)) ≡ orElse a 1 (orElse b 2 (orElse c 3 rest))
+    go : (a b c : Bool) → (orElse a 1 (orElse b 2 (orElse c 3 0)) ≡ 0 → ⊥) → orElse a 1 (orElse b 2 (orElse c 3 0)) ≡ orElse a 1
+        (orElse b 2 (orElse c 3 rest))
     go true b c h = refl
     go false true c h = refl
     go false false true h = refl
@@ -95,11 +116,13 @@ module _ (N : Numbers) (w bytes : List ℕ) where
   -- A refusal changes no word, and both counts are 0.
   pub refused-keeps : (step N w bytes .number ≡ 0 → ⊥) → Kept w (words N (new N w bytes)) (step N w bytes)
   unfolding step
-  refused-keeps h = kept-of w (words N (new N w bytes)) (refusal N w bytes) (λ e. h (number-of w (words N (new N w bytes)) (refusal N w bytes) ∙ e))
+  refused-keeps h = kept-of w (words N (new N w bytes)) (refusal N w bytes)
+      (λ e. h (number-of w (words N (new N w bytes)) (refusal N w bytes) ∙ e))
 
   pub accepted-leaves : step N w bytes .number ≡ 0 → Left w (words N (new N w bytes)) (step N w bytes)
   unfolding step
-  accepted-leaves h = left-of w (words N (new N w bytes)) (refusal N w bytes) (sym (number-of w (words N (new N w bytes)) (refusal N w bytes)) ∙ h)
+  accepted-leaves h = left-of w (words N (new N w bytes)) (refusal N w bytes)
+      (sym (number-of w (words N (new N w bytes)) (refusal N w bytes)) ∙ h)
 
 -- The words of consistent facts that fit are a consistent table.
 module _ (N : Numbers) (s : Sound N) (w : List ℕ) (t : Table N w) (K : List Fact) (a : All (Allowed (N .top)) K) where
@@ -125,12 +148,14 @@ pub step-length : (N : Numbers) (w bytes : List ℕ) → length (step N w bytes 
 step-length N w bytes = elim (ℕ-discrete (step N w bytes .number) 0) [
   | no n ↦ ap length (refused-keeps N w bytes n .table)
   | yes e ↦ ap length (accepted-leaves N w bytes e .table)
-      ∙ padded-length (length w) (words N (new N w bytes)) (room-fits N w (new N w bytes) (passed N w bytes (sym (step-number N w bytes) ∙ e) .room))
+      ∙ padded-length (length w) (words N (new N w bytes)) (room-fits N w (new N w bytes)
+      (passed N w bytes (sym (step-number N w bytes) ∙ e) .room))
 ]
 
 -- A ticket of another length than a record is refused with 4.
 pub wrong-length : (N : Numbers) (w bytes : List ℕ) → Table N w → (length bytes ≡ recordLength → ⊥) → step N w bytes .number ≡ 4
 wrong-length N w bytes t h =
     let s : Sane N w = table-sane N w t in
-    step-number N w bytes ∙ (pass-link (badSize N w) 1 _ (s .size) ∙ (pass-link (badLayout N w) 2 _ (s .layout) ∙ (pass-link (inconsistent N w) 3 _ (s .rules)
+    step-number N w bytes ∙ (pass-link (badSize N w) 1 _ (s .size) ∙ (pass-link (badLayout N w) 2 _ (s .layout)
+    ∙ (pass-link (inconsistent N w) 3 _ (s .rules)
     ∙ stop-link (badLength bytes) 4 _ (not-T (eqb (length bytes) recordLength) (λ e. h (eqb→eq (length bytes) recordLength e))))))

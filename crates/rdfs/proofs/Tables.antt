@@ -30,7 +30,8 @@ module _ (N : Numbers) where
       subst (λ y. y ∈ words N L) (sym (r .2)) (words-in L (r .0) (s (r .0) (r .1)))
 
   pub words-same : (K L : List Fact) → K ⊆ L → L ⊆ K → words N K ≡ words N L
-  words-same K L to from = ascending-equal (words N K) (words N L) (sort-ascending (map (word (N .base)) K)) (sort-ascending (map (word (N .base)) L)) (words-sub K L to) (words-sub L K from)
+  words-same K L to from = ascending-equal (words N K) (words N L) (sort-ascending (map (word (N .base)) K))
+      (sort-ascending (map (word (N .base)) L)) (words-sub K L to) (words-sub L K from)
 
 pub padded-length : (n : ℕ) (l : List ℕ) → length l ≤ n → length (padded n l) ≡ n
 padded-length n l h = omega (arith, length-append l (replicate (n - length l) 0), length-replicate {A = ℕ} (n - length l) 0)
@@ -43,7 +44,8 @@ module _ (N : Numbers) (s : Sound N) where
   pub word-is-fact : (f : Fact) → T (allowed (N .top) f) → T (isFact N (word (N .base) f))
   word-is-fact f a =
       let w : ℕ = word (N .base) f in
-      subst (λ g. T (eqb (word (N .base) g) w && allowed (N .top) g)) (sym (fact-of-word f a)) (both-and (eqb w w) (allowed (N .top) f) (eqb-refl w) a)
+      subst (λ g. T (eqb (word (N .base) g) w && allowed (N .top) g)) (sym (fact-of-word f a))
+      (both-and (eqb w w) (allowed (N .top) f) (eqb-refl w) a)
 
   module _ (n : ℕ) (K : List Fact) (a : (f : Fact) → f ∈ K → T (allowed (N .top) f)) where
     words-facts : (x : ℕ) → x ∈ words N K → T (isFact N x)
@@ -62,7 +64,8 @@ module _ (N : Numbers) (s : Sound N) where
             subst (λ g. g ∈ K) (sym (r .2 ∙ (ap (fact (N .base)) (q .2) ∙ fact-of-word (q .0) (a (q .0) (q .1))))) (q .1)
 
         forth : K ⊆ map (fact (N .base)) (words N K)
-        forth f h = subst (λ g. g ∈ map (fact (N .base)) (words N K)) (fact-of-word f (a f h)) (map-in (fact (N .base)) (words-in N K f h))
+        forth f h = subst (λ g. g ∈ map (fact (N .base)) (words N K)) (fact-of-word f (a f h)) (map-in (fact (N .base)) (words-in
+            N K f h))
 
     pub laid-padded : T (laidOut N 1 (padded n (words N K)))
     laid-padded = shape-laid N s (words N K) (n - length (words N K)) (sort-ascending (map (word (N .base)) K)) words-facts

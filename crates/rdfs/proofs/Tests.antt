@@ -1,5 +1,5 @@
--- Tests: a Bool that is true exactly if a statement holds, by its connectives. Assumes nothing. The computed cases stand below every law, so
--- that a definition which no longer gives them is refused there first.
+-- Tests: a Bool that is true exactly if a statement holds, by its connectives. Assumes nothing. The computed cases stand below
+-- every law, so that a definition which no longer gives them is refused there first.
 use Prim.Native.Nat.{ℕ}
 use mathlib.Core.Path.{_≡_, refl, subst}
 use mathlib.Core.Bool.{Bool, true, false, not, _&&_, _||_, cond}
@@ -48,10 +48,18 @@ pub tests-not : {t : Bool} {P : Type 0} → Tests t P → Tests (not t) (P → �
 tests-not {t} e = record { sound = λ n p. T-not t n (e .complete p); complete = λ n. not-T t (λ h. n (e .sound h)) }
 
 pub tests-and : {s t : Bool} {P Q : Type 0} → Tests s P → Tests t Q → Tests (s && t) (P × Q)
-tests-and {s} {t} d e = record { sound = λ h. let q = and-both s t h in (d .sound (q .0), e .sound (q .1)); complete = λ p. both-and s t (d .complete (p .0)) (e .complete (p .1)) }
+tests-and {s} {t} d e = record {
+  sound = λ h. let q = and-both s t h in (d .sound (q .0), e .sound (q .1));
+  complete =
+      λ p. both-and s t (d .complete (p .0)) (e .complete (p .1));
+}
 
 pub tests-or : {s t : Bool} {P Q : Type 0} → Tests s P → Tests t Q → Tests (s || t) (P ⊎ Q)
-tests-or {s} {t} d e = record { sound = λ h. ⊎-elim (λ p. inl (d .sound p)) (λ q. inr (e .sound q)) (or-either s t h); complete = λ o. either-or s t (⊎-elim (λ p. inl (d .complete p)) (λ q. inr (e .complete q)) o) }
+tests-or {s} {t} d e = record {
+  sound = λ h. ⊎-elim (λ p. inl (d .sound p)) (λ q. inr (e .sound q)) (or-either s t h);
+  complete =
+      λ o. either-or s t (⊎-elim (λ p. inl (d .complete p)) (λ q. inr (e .complete q)) o);
+}
 
 pub tests-eq : (x y : ℕ) → Tests (eqb x y) (x ≡ y)
 tests-eq x y = record { sound = eqb→eq x y; complete = λ e. subst (λ z. T (eqb x z)) e (eqb-refl x) }
@@ -72,9 +80,18 @@ tests-none = record { sound = λ h. h; complete = λ h. h }
 pub tests-self : (t : Bool) → Tests t (T t)
 tests-self t = record { sound = λ h. h; complete = λ h. h }
 
-pub tests-cond : {s t u : Bool} {P Q R : Type 0} → Tests s P → Tests t Q → Tests u R → Tests (cond s t u) ((P × Q) ⊎ ((P → ⊥) × R))
-tests-cond {s = true} d e f = record { sound = λ h. inl (d .sound tt, e .sound h); complete = ⊎-elim (λ q. e .complete (q .1)) (λ q. absurd (q .0 (d .sound tt))) }
-tests-cond {s = false} d e f = record { sound = λ h. inr ((λ p. d .complete p), f .sound h); complete = ⊎-elim (λ q. absurd (d .complete (q .0))) (λ q. f .complete (q .1)) }
+pub tests-cond : {s t u : Bool} {P Q R : Type 0} → Tests s P → Tests t Q → Tests u R
+    → Tests (cond s t u) ((P × Q) ⊎ ((P → ⊥) × R))
+tests-cond {s = true} d e f = record {
+  sound = λ h. inl (d .sound tt, e .sound h);
+  complete =
+      ⊎-elim (λ q. e .complete (q .1)) (λ q. absurd (q .0 (d .sound tt)));
+}
+tests-cond {s = false} d e f = record {
+  sound = λ h. inr ((λ p. d .complete p), f .sound h);
+  complete =
+      ⊎-elim (λ q. absurd (d .complete (q .0))) (λ q. f .complete (q .1));
+}
 
 pub tests-decides : {t : Bool} {P : Type 0} → Tests t P → Dec P
 tests-decides {t = true} e = yes (e .sound tt)

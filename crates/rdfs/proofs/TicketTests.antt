@@ -8,7 +8,21 @@ use lib.Dec.{T, eqb, ltb, not-T, nltb→le}
 use Rattle.rdfs.specs.Numbers.{ticketKinds}
 use Rattle.rdfs.specs.Lists.{_∈_, member}
 use Rattle.rdfs.specs.Facts.{Fact, cl, pr, ind, lit, csub, psub, dom, rng, ci, pi, has}
-use Rattle.rdfs.specs.Tickets.{Ticket, inserts, deletes, makesProperty, asked, badOperation, badKind, badIds, unusedNotZero, markMisplaced, aboveHighest, unknownProperty, ticketOf}
+use Rattle.rdfs.specs.Tickets.{
+  Ticket,
+  inserts,
+  deletes,
+  makesProperty,
+  asked,
+  badOperation,
+  badKind,
+  badIds,
+  unusedNotZero,
+  markMisplaced,
+  aboveHighest,
+  unknownProperty,
+  ticketOf,
+}
 use Rattle.rdfs.specs.Orders.{Uses}
 use Rattle.rdfs.proofs.Tests.{Tests, tests-and, tests-or, tests-not, tests-eq, tests-self, and-both, either-or, or-either}
 use Rattle.rdfs.proofs.Lists.{in-cons, in-one}
@@ -19,8 +33,10 @@ use Rattle.rdfs.proofs.Allowed.{Allowed, Id, Ids, ids-allowed}
 -- by kind
 pub by-kind {ℓ} : (P : ℕ → Type ℓ) (k : ℕ) → k ∈ ticketKinds → P 1 → P 2 → P 3 → P 4 → P 5 → P 6 → P 9 → P 10 → P k
 by-kind P k h p1 p2 p3 p4 p5 p6 p9 p10 =
-    ⊎-elim (λ e. subst P (sym e) p1) (λ h. ⊎-elim (λ e. subst P (sym e) p2) (λ h. ⊎-elim (λ e. subst P (sym e) p3) (λ h. ⊎-elim (λ e. subst P (sym e) p4) (λ h.
-    ⊎-elim (λ e. subst P (sym e) p5) (λ h. ⊎-elim (λ e. subst P (sym e) p6) (λ h. ⊎-elim (λ e. subst P (sym e) p9) (λ h. subst P (sym (in-one h)) p10)
+    ⊎-elim (λ e. subst P (sym e) p1) (λ h. ⊎-elim (λ e. subst P (sym e) p2) (λ h. ⊎-elim (λ e. subst P (sym e) p3) (λ h.
+    ⊎-elim (λ e. subst P (sym e) p4) (λ h.
+    ⊎-elim (λ e. subst P (sym e) p5) (λ h. ⊎-elim (λ e. subst P (sym e) p6) (λ h. ⊎-elim (λ e. subst P (sym e) p9)
+    (λ h. subst P (sym (in-one h)) p10)
     (in-cons h)) (in-cons h)) (in-cons h)) (in-cons h)) (in-cons h)) (in-cons h)) (in-cons h)
 
 -- A test that does not fail holds.
@@ -43,15 +59,20 @@ module _ (K : List Fact) (t : Ticket) (i : T (inserts t)) where
   lacks : (x : ℕ) → Tests (not (has K (pr x))) (pr x ∈ K → ⊥)
   lacks x = tests-not (tests-has K (pr x))
 
-  tests-unknown : Tests (unknownProperty K t) (T (inserts t) × (((t .kind ≡ 6) × ((pr (t .a) ∈ K → ⊥) ⊎ (pr (t .b) ∈ K → ⊥))) ⊎ ((t .kind ≡ 10) × (pr (t .c) ∈ K → ⊥))))
+  tests-unknown : Tests (unknownProperty K t) (T (inserts t) × (((t .kind ≡ 6) × ((pr (t .a) ∈ K → ⊥) ⊎ (pr (t .b) ∈ K → ⊥)))
+      ⊎ ((t .kind ≡ 10) × (pr (t .c) ∈ K → ⊥))))
   tests-unknown = tests-and (tests-self (inserts t))
-      (tests-or (tests-and (tests-eq (t .kind) 6) (tests-or (lacks (t .a)) (lacks (t .b)))) (tests-and (tests-eq (t .kind) 10) (lacks (t .c))))
+      (tests-or (tests-and (tests-eq (t .kind) 6) (tests-or (lacks (t .a)) (lacks (t .b)))) (tests-and (tests-eq (t .kind) 10)
+      (lacks (t .c))))
 
   pub uses-known : (T (unknownProperty K t) → ⊥) → (p : ℕ) → Uses t p → pr p ∈ K
   uses-known n p u =
-      let at : (x : ℕ) → p ≡ x → ((pr x ∈ K → ⊥) → ⊥) → pr p ∈ K = λ x e h. subst (λ y. pr y ∈ K) (sym e) (tests-has K (pr x) .sound (stands (has K (pr x)) (λ m. h (lacks x .sound m)))) in
+      let at : (x : ℕ) → p ≡ x → ((pr x ∈ K → ⊥) → ⊥) → pr p ∈ K =
+      λ x e h. subst (λ y. pr y ∈ K) (sym e) (tests-has K (pr x) .sound
+      (stands (has K (pr x)) (λ m. h (lacks x .sound m)))) in
       ⊎-elim
-      (λ q. ⊎-elim (λ e. at (t .a) e (λ m. n (tests-unknown .complete (i, inl (q .0, inl m))))) (λ e. at (t .b) e (λ m. n (tests-unknown .complete (i, inl (q .0, inr m))))) (q .1))
+      (λ q. ⊎-elim (λ e. at (t .a) e (λ m. n (tests-unknown .complete (i, inl (q .0, inl m)))))
+      (λ e. at (t .b) e (λ m. n (tests-unknown .complete (i, inl (q .0, inr m))))) (q .1))
       (λ q. at (t .c) (q .1) (λ m. n (tests-unknown .complete (i, inr (q .0, m))))) u
 
   pub known-uses : ((p : ℕ) → Uses t p → pr p ∈ K) → T (unknownProperty K t) → ⊥
@@ -91,19 +112,30 @@ module _ (top : ℕ) (t : Ticket) (n : T (badIds top t) → ⊥) where
       }
 
 -- The facts that an insertion asks for have ids up to the highest and the mark in its place.
-pub asked-allowed : (top : ℕ) (t : Ticket) → T (inserts t) → t .kind ∈ ticketKinds → (T (badIds top t) → ⊥) → All (Allowed top) (asked t)
+pub asked-allowed : (top : ℕ) (t : Ticket) → T (inserts t) → t .kind ∈ ticketKinds → (T (badIds top t) → ⊥)
+    → All (Allowed top) (asked t)
 asked-allowed top t i h n = of (t .operation) (t .kind) (t .a) (t .b) (t .c) i h n
   where
-    of : (o k a b c : ℕ) → T (eqb o 1) → k ∈ ticketKinds → (T (badIds top (ticketOf o k a b c)) → ⊥) → All (Allowed top) (asked (ticketOf o k a b c))
-    of o k a b c i h = by-kind (λ k. (T (badIds top (ticketOf o k a b c)) → ⊥) → All (Allowed top) (asked (ticketOf o k a b c))) k h
+    of : (o k a b c : ℕ) → T (eqb o 1) → k ∈ ticketKinds → (T (badIds top (ticketOf o k a b c)) → ⊥)
+        → All (Allowed top) (asked (ticketOf o k a b c))
+    of o k a b c i h = by-kind (λ k. (T (badIds top (ticketOf o k a b c)) → ⊥) → All (Allowed top) (asked (ticketOf o k a b c))) k
+        h
         (λ n. single (cl a) (fst 1 n))
-        (λ n f m. ⊎-elim (λ e. put f (pr a) e (fst 2 n)) (λ m. ⊎-elim (λ e. put f (dom a b) e (fst 2 n, snd 2 n)) (λ m. put f (rng a c) (in-one m) (fst 2 n, given-ids top (ticketOf o 2 a b c) n .c-top)) (in-cons m)) (in-cons m))
+        (λ n f m. ⊎-elim (λ e. put f (pr a) e (fst 2 n)) (λ m. ⊎-elim (λ e. put f (dom a b) e (fst 2 n, snd 2 n))
+        (λ m. put f (rng a c) (in-one m) (fst 2 n, given-ids top (ticketOf o 2 a b c) n .c-top)) (in-cons m)) (in-cons m))
         (λ n. single (ind a) (fst 3 n))
         (λ n. single (lit a) (fst 4 n))
         (λ n. single (csub a b) (fst 5 n, snd 5 n))
         (λ n. single (psub a b) (fst 6 n, snd 6 n))
         (λ n. single (ci a b) (fst 9 n, snd 9 n))
-        (λ n. single (pi a b c) (fst 10 n, snd 10 n, (given-ids top (ticketOf o 10 a b c) n .c-top, given-ids top (ticketOf o 10 a b c) n .c-mark (λ p. and-both (eqb o 1) false p .1))))
+        (λ n. single (pi a b c) (
+          fst 10 n,
+          snd 10 n,
+          (
+            given-ids top (ticketOf o 10 a b c) n .c-top,
+            given-ids top (ticketOf o 10 a b c) n .c-mark (λ p. and-both (eqb o 1) false p .1),
+          ),
+        ))
       where
         fst : (k : ℕ) → (T (badIds top (ticketOf o k a b c)) → ⊥) → Id top a
         fst k n = let g = given-ids top (ticketOf o k a b c) n in (g .a-top, g .a-mark)

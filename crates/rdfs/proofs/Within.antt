@@ -1,5 +1,5 @@
--- An insertion that some consistent graph of the table's size can take is accepted and stays within that graph; so one whose facts are all
--- there changes nothing. Assumes nothing.
+-- An insertion that some consistent graph of the table's size can take is accepted and stays within that graph; so one whose
+-- facts are all there changes nothing. Assumes nothing.
 use Prim.Native.Nat.{ℕ, _≤_}
 use mathlib.Core.Path.{_≡_, refl, sym, ap, subst, _∙_}
 use mathlib.Core.Logic.{inl, inr, ⊎-elim}
@@ -30,39 +30,46 @@ use Rattle.rdfs.proofs.Refusals.{new, pass}
 use Rattle.rdfs.proofs.Steps.{table-sane, table-allowed, step-number, accepted-leaves}
 use Rattle.rdfs.proofs.InsertionSteps.{new-is, ask-allowed, accepted-smallest}
 
-module _ (N : Numbers) (s : Sound N) (w bytes : List ℕ) (t : Table N w) (i : T (inserts (decoded bytes))) (f : Formed N bytes) where
-  abbrev K : List Fact
-  K = facts N w
+module _ (N : Numbers) (s : Sound N) (w bytes : List ℕ) (t : Table N w) (i : T (inserts (decoded bytes))) (f : Formed N bytes)
+  where
+    abbrev K : List Fact
+    K = facts N w
 
-  abbrev ask : List Fact
-  ask = asked (decoded bytes)
+    abbrev ask : List Fact
+    ask = asked (decoded bytes)
 
-  -- Some consistent graph E takes the insertion.
-  module _ (E : List Fact) (c : Consistent (graph E)) (held : K ⊆ E) (wanted : ask ⊆ E) where
-    inside : new N w bytes ⊆ E
-    inside = subst (λ L. L ⊆ E) (sym (new-is N s w bytes t i))
-        (insertion-in (N .top) K ask (table-allowed N s w t) (ask-allowed N s w bytes t i f) (graph E) (demands (graph E) c) held wanted)
+    -- Some consistent graph E takes the insertion.
+    module _ (E : List Fact) (c : Consistent (graph E)) (held : K ⊆ E) (wanted : ask ⊆ E) where
+      inside : new N w bytes ⊆ E
+      inside = subst (λ L. L ⊆ E) (sym (new-is N s w bytes t i))
+          (insertion-in (N .top) K ask (table-allowed N s w t) (ask-allowed N s w bytes t i f) (graph E) (demands (graph E) c)
+          held
+          wanted)
 
-    pub accepted-within : ((p : ℕ) → Uses (decoded bytes) p → pr p ∈ K) → length (words N E) ≤ length w → step N w bytes .number ≡ 0
-    accepted-within u room = step-number N w bytes ∙ pass N w bytes (record {
-      sane = table-sane N w t;
-      formed = f;
-      known = known-uses K (decoded bytes) i u;
-      possible = λ h. insertion-clash (N .top) K ask (table-allowed N s w t) (ask-allowed N s w bytes t i f)
-          (subst (λ L. T (clashes L)) (new-is N s w bytes t i) (and-both (inserts (decoded bytes)) (clashes (new N w bytes)) h .1)) (graph E) c held wanted;
-      room = λ h. omega (
-        arith,
-        ltb→lt (length w) (length (words N (new N w bytes))) h,
-        sub-length (words N E) (words N (new N w bytes)) (sort-ascending (map (word (N .base)) E)) (sort-ascending (map (word (N .base)) (new N w bytes))) (words-sub N (new N w bytes) E inside),
-        room,
-      );
-    })
+      pub accepted-within : ((p : ℕ) → Uses (decoded bytes) p → pr p ∈ K) → length (words N E) ≤ length w
+          → step N w bytes .number ≡ 0
+      accepted-within u room = step-number N w bytes ∙ pass N w bytes (record {
+        sane = table-sane N w t;
+        formed = f;
+        known = known-uses K (decoded bytes) i u;
+        possible = λ h. insertion-clash (N .top) K ask (table-allowed N s w t) (ask-allowed N s w bytes t i f)
+            (subst (λ L. T (clashes L)) (new-is N s w bytes t i) (and-both (inserts (decoded bytes)) (clashes (new N w bytes))
+            h .1)) (graph E) c held wanted;
+        room = λ h. omega (
+          arith,
+          ltb→lt (length w) (length (words N (new N w bytes))) h,
+          sub-length (words N E) (words N (new N w bytes)) (sort-ascending (map (word (N .base)) E))
+              (sort-ascending (map (word (N .base)) (new N w bytes))) (words-sub N (new N w bytes) E inside),
+          room,
+        );
+      })
 
-    pub accepted-inside : step N w bytes .number ≡ 0 → facts N (step N w bytes .table) ⊆ E
-    accepted-inside e = accepted-smallest N s w bytes t i e .least (graph E) c held wanted
+      pub accepted-inside : step N w bytes .number ≡ 0 → facts N (step N w bytes .table) ⊆ E
+      accepted-inside e = accepted-smallest N s w bytes t i e .least (graph E) c held wanted
 
 -- The properties that a ticket uses stand where its facts do.
-asked-uses : (K : List Fact) → Consistent (graph K) → (o k a b c : ℕ) → k ∈ ticketKinds → asked (ticketOf o k a b c) ⊆ K → (p : ℕ) → Uses (ticketOf o k a b c) p → pr p ∈ K
+asked-uses : (K : List Fact) → Consistent (graph K) → (o k a b c : ℕ) → k ∈ ticketKinds → asked (ticketOf o k a b c) ⊆ K → (p : ℕ)
+    → Uses (ticketOf o k a b c) p → pr p ∈ K
 asked-uses K c o k a b d h all p (inl u) =
     let link : psub a b ∈ K = subst (λ k. asked (ticketOf o k a b d) ⊆ K) (u .0) all (psub a b) (here refl) in
     let q = c .rule-8 a b link in
@@ -75,7 +82,8 @@ pub answer-same : (a : Answer) (w : List ℕ) → a .number ≡ 0 → a .added �
 answer-same a w n p q r = λ i. record { number = n i; added = p i; removed = q i; table = r i }
 
 -- A step that leaves the facts it found changes nothing.
-pub same-facts : (N : Numbers) (w bytes : List ℕ) → Table N w → step N w bytes .number ≡ 0 → new N w bytes ⊆ facts N w → facts N w ⊆ new N w bytes → step N w bytes ≡ unchanged w
+pub same-facts : (N : Numbers) (w bytes : List ℕ) → Table N w → step N w bytes .number ≡ 0 → new N w bytes ⊆ facts N w
+    → facts N w ⊆ new N w bytes → step N w bytes ≡ unchanged w
 same-facts N w bytes t e to from =
     let l = accepted-leaves N w bytes e in
     let ws : words N (new N w bytes) ≡ filled w = words-same N (new N w bytes) (facts N w) to from ∙ laid-words N w (t .laid) in
@@ -85,10 +93,12 @@ same-facts N w bytes t e to from =
     (l .table ∙ (ap (padded (length w)) (words-same N (new N w bytes) (facts N w) to from) ∙ sym (laid-again N w (t .laid))))
 
 -- An insertion whose facts are all there is accepted and changes nothing.
-pub repeated-insertion : (N : Numbers) → Sound N → (w bytes : List ℕ) → Table N w → T (inserts (decoded bytes)) → Formed N bytes → asked (decoded bytes) ⊆ facts N w → step N w bytes ≡ unchanged w
+pub repeated-insertion : (N : Numbers) → Sound N → (w bytes : List ℕ) → Table N w → T (inserts (decoded bytes)) → Formed N bytes
+    → asked (decoded bytes) ⊆ facts N w → step N w bytes ≡ unchanged w
 repeated-insertion N s w bytes t i f all =
     let d = decoded bytes in
     let u = asked-uses (facts N w) (t .consistent) (d .operation) (d .kind) (d .a) (d .b) (d .c) (known-kind d (f .kind)) all in
     let e = accepted-within N s w bytes t i f (facts N w) (t .consistent) (λ g h. h) all u (laid-fits N w (t .laid)) in
     same-facts N w bytes t e (inside N s w bytes t i f (facts N w) (t .consistent) (λ g h. h) all)
-    (λ g h. subst (λ L. g ∈ L) (sym (new-is N s w bytes t i)) (insertion-keeps (N .top) (facts N w) (asked d) (table-allowed N s w t) (ask-allowed N s w bytes t i f) g (addAll-keeps (facts N w) (asked d) g h)))
+    (λ g h. subst (λ L. g ∈ L) (sym (new-is N s w bytes t i)) (insertion-keeps (N .top) (facts N w) (asked d)
+    (table-allowed N s w t) (ask-allowed N s w bytes t i f) g (addAll-keeps (facts N w) (asked d) g h)))

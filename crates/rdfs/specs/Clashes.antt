@@ -4,7 +4,23 @@ use mathlib.Core.Bool.{Bool, true, false, not, _&&_, _||_, cond}
 use mathlib.Core.List.{List, [], _∷_}
 use lib.Dec.{eqb}
 use Rattle.rdfs.specs.Lists.{all, any}
-use Rattle.rdfs.specs.Facts.{Fact, cl, pr, ind, lit, csub, psub, dom, rng, ci, pi, kind, first, second, has}
+use Rattle.rdfs.specs.Facts.{
+  Fact,
+  cl,
+  pr,
+  ind,
+  lit,
+  csub,
+  psub,
+  dom,
+  rng,
+  ci,
+  pi,
+  kind,
+  first,
+  second,
+  has,
+}
 use Rattle.rdfs.specs.Demands.{withA, needs}
 
 -- The facts that may not stand beside one: rules 4, 5, 6, H2, 19, 21.
@@ -27,8 +43,10 @@ mixed z w = (eqb z 1 && not (eqb w 1)) || (not (eqb z 1) && eqb w 1)
 -- Facts of K that may not stand beside one by their ids: H4; 16 and 17.
 unfoldable pub unequal : List Fact → Fact → Bool
 unequal K f =
-    cond (eqb (kind f) 6) (any (λ g. any (λ h. mixed (second g) (second h)) (withA K 8 (second f))) (withA K 8 (first f)))
-    (cond (eqb (kind f) 7 || eqb (kind f) 8) (any (λ g. not (eqb (second f) (second g))) (withA K (kind f) (first f))) false)
+    cond (eqb (kind f) 6) (any (λ g. any (λ h. mixed (second g) (second h)) (withA K 8 (second f)))
+    (withA K 8 (first f)))
+    (cond (eqb (kind f) 7 || eqb (kind f) 8) (any (λ g. not (eqb (second f) (second g)))
+    (withA K (kind f) (first f))) false)
 
 abbrev pub clash : List Fact → Fact → Bool
 clash K f = any (has K) (bars f) || unequal K f

@@ -55,7 +55,8 @@ made k a b c =
     (cond (eqb k 9) (ci a b) (pi a b c)))))))))
 
 abbrev pub same : Fact → Fact → Bool
-same f g = eqb (kind f) (kind g) && (eqb (first f) (first g) && (eqb (second f) (second g) && eqb (third f) (third g)))
+same f g = eqb (kind f) (kind g) && (eqb (first f) (first g) && (eqb (second f) (second g) && eqb (third f)
+    (third g)))
 
 abbrev pub has : List Fact → Fact → Bool
 has K f = any (same f) K

@@ -35,7 +35,8 @@ cycleOfTwo K x y z w = not (eqb x y) && (not (eqb z w) && (under K 5 z y && unde
 
 -- The clash of a property with domain b and range c that are not all there.
 abbrev pub newPropertyClash : List Fact → ℕ → ℕ → ℕ → Bool
-newPropertyClash K a b c = otherRole K 0 a || (otherRole K 1 b || ((not (eqb c 1) && otherRole K 1 c) || (eqb a b || eqb a c)))
+newPropertyClash K a b c =
+    otherRole K 0 a || (otherRole K 1 b || ((not (eqb c 1) && otherRole K 1 c) || (eqb a b || eqb a c)))
 
 abbrev pub propertyClash : List Fact → Ticket → Bool
 propertyClash K t = not (all (has K) (asked t)) && newPropertyClash K (t .a) (t .b) (t .c)
@@ -68,5 +69,6 @@ valueClash K a b c = otherRole K 3 a || noValue K a b c
 unfoldable pub lookupClash : List Fact → Ticket → Bool
 lookupClash K t =
     cond (eqb (t .kind) 2) (propertyClash K t) (cond (eqb (t .kind) 5) (classLinkClash K (t .a) (t .b))
-    (cond (eqb (t .kind) 6) (propertyLinkClash K (t .a) (t .b)) (cond (eqb (t .kind) 9) (memberClash K (t .a) (t .b))
+    (cond (eqb (t .kind) 6) (propertyLinkClash K (t .a) (t .b)) (cond (eqb (t .kind) 9)
+    (memberClash K (t .a) (t .b))
     (cond (eqb (t .kind) 10) (valueClash K (t .a) (t .b) (t .c)) (otherRole K (t .kind) (t .a))))))

@@ -1,5 +1,5 @@
--- The numbers of a table and a ticket, in one place; definitions and theorems take the first three as parameters. In formulas, as in document 01,
--- id 0 is Resource and id 1 the mark Literal.
+-- The numbers of a table and a ticket, in one place; definitions and theorems take the first three as
+-- parameters. In formulas, as in document 01, id 0 is Resource and id 1 the mark Literal.
 use Prim.Native.Nat.{ℕ, _≤_, _<_}
 use mathlib.Core.Bool.{cond}
 use mathlib.Core.List.{List, [], _∷_}

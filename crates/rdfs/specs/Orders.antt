@@ -24,11 +24,12 @@ SameTickets l m = (t : List ℕ) → count (sameBytes t) l ≡ count (sameBytes 
 abbrev pub Uses : Ticket → ℕ → Type 0
 Uses t p = ((t .kind ≡ 6) × ((p ≡ t .a) ⊎ (p ≡ t .b))) ⊎ ((t .kind ≡ 10) × (p ≡ t .c))
 
--- Before each ticket that uses a new property there is an insertion of kind 2 with that property as a. A property is new if the table at the
--- start lacks it.
+-- Before each ticket that uses a new property there is an insertion of kind 2 with that property as a. A
+-- property is new if the table at the start lacks it.
 abbrev pub InOrder : List Fact → List (List ℕ) → Type 0
 InOrder K l =
-    (before after : List (List ℕ)) (t : List ℕ) (p : ℕ) → l ≡ before ++ (t ∷ after) → Uses (decoded t) p → (pr p ∈ K → ⊥)
+    (before after : List (List ℕ)) (t : List ℕ) (p : ℕ) → l ≡ before ++ (t ∷ after) → Uses (decoded t) p
+    → (pr p ∈ K → ⊥)
     → (u : List ℕ) × (u ∈ before) × T (makesProperty (decoded u)) × (decoded u .a ≡ p)
 
 abbrev pub AllInsertions : List (List ℕ) → Type 0

@@ -1,4 +1,5 @@
--- What the theorems speak of beside the definitions: tickets past a refusal, graphs that can be had, what holds after a ticket.
+-- What the theorems speak of beside the definitions: tickets past a refusal, graphs that can be had, what
+-- holds after a ticket.
 use Prim.Native.Nat.{ℕ}
 use mathlib.Core.Path.{_≡_}
 use mathlib.Core.List.{List}
@@ -8,7 +9,19 @@ use Rattle.rdfs.specs.Lists.{_∈_, _⊆_}
 use Rattle.rdfs.specs.Facts.{Fact, Graph, pr, graph, _⊑_}
 use Rattle.rdfs.specs.Consistency.{Consistent}
 use Rattle.rdfs.specs.Words.{allowed, facts}
-use Rattle.rdfs.specs.Tickets.{Ticket, decoded, inserts, deletes, named, asked, badLength, badOperation, badKind, badIds, guarded}
+use Rattle.rdfs.specs.Tickets.{
+  Ticket,
+  decoded,
+  inserts,
+  deletes,
+  named,
+  asked,
+  badLength,
+  badOperation,
+  badKind,
+  badIds,
+  guarded,
+}
 use Rattle.rdfs.specs.Register.{Answer, step, Table}
 use Rattle.rdfs.specs.Orders.{Uses}
 
@@ -42,8 +55,13 @@ unchanged w = record { number = 0; added = 0; removed = 0; table = w }
 -- What holds after one ticket on the words of a table.
 pub record After (N : Numbers) (w bytes : List ℕ) : Type 0 where
   pub rules : Table N (step N w bytes .table)
-  pub refused : (step N w bytes .number ≡ 0 → ⊥) → (step N w bytes .table ≡ w) × (step N w bytes .added ≡ 0) × (step N w bytes .removed ≡ 0)
-  pub there-are : step N w bytes .number ≡ 0 → T (inserts (decoded bytes)) → asked (decoded bytes) ⊆ facts N (step N w bytes .table)
-  pub is-gone : step N w bytes .number ≡ 0 → T (deletes (decoded bytes)) → named (decoded bytes) ∈ facts N (step N w bytes .table) → ⊥
-  pub grows : T (inserts (decoded bytes)) → (step N w bytes .removed ≡ 0) × (facts N w ⊆ facts N (step N w bytes .table))
-  pub shrinks : T (deletes (decoded bytes)) → (step N w bytes .added ≡ 0) × (facts N (step N w bytes .table) ⊆ facts N w)
+  pub refused : (step N w bytes .number ≡ 0 → ⊥) → (step N w bytes .table ≡ w) × (step N w bytes .added ≡ 0)
+      × (step N w bytes .removed ≡ 0)
+  pub there-are : step N w bytes .number ≡ 0 → T (inserts (decoded bytes)) → asked (decoded bytes) ⊆ facts N
+      (step N w bytes .table)
+  pub is-gone : step N w bytes .number ≡ 0 → T (deletes (decoded bytes)) → named (decoded bytes) ∈ facts N
+      (step N w bytes .table) → ⊥
+  pub grows : T (inserts (decoded bytes)) → (step N w bytes .removed ≡ 0)
+      × (facts N w ⊆ facts N (step N w bytes .table))
+  pub shrinks : T (deletes (decoded bytes)) → (step N w bytes .added ≡ 0)
+      × (facts N (step N w bytes .table) ⊆ facts N w)

@@ -10,7 +10,18 @@ use Rattle.rdfs.specs.Facts.{Fact, graph}
 use Rattle.rdfs.specs.Consistency.{Consistent}
 use Rattle.rdfs.specs.Words.{laidOut, filled, facts, words, padded}
 use Rattle.rdfs.specs.Clashes.{consistent?}
-use Rattle.rdfs.specs.Tickets.{Ticket, decoded, outcome, badLength, badOperation, badKind, badIds, guarded, unknownProperty, clashing}
+use Rattle.rdfs.specs.Tickets.{
+  Ticket,
+  decoded,
+  outcome,
+  badLength,
+  badOperation,
+  badKind,
+  badIds,
+  guarded,
+  unknownProperty,
+  clashing,
+}
 
 -- The first refusal whose test is true.
 abbrev pub orElse : Bool → ℕ → ℕ → ℕ
@@ -44,7 +55,8 @@ tooMany N w new = ltb (length w) (length (words N new))
 abbrev pub ticketRefusal : Numbers → List ℕ → List Fact → List Fact → List ℕ → ℕ
 ticketRefusal N w K new bytes =
     let t : Ticket = decoded bytes in
-    orElse (badLength bytes) 4 (orElse (badOperation t) 5 (orElse (badKind t) 6 (orElse (badIds (N .top) t) 7 (orElse (guarded t) 8
+    orElse (badLength bytes) 4 (orElse (badOperation t) 5 (orElse (badKind t) 6 (orElse (badIds (N .top) t) 7
+    (orElse (guarded t) 8
     (orElse (unknownProperty K t) 9 (orElse (clashing new t) 10 (orElse (tooMany N w new) 11 0)))))))
 
 -- A ticket's answer and the words it leaves.
@@ -60,7 +72,12 @@ besides old new = length (filter (λ x. not (member old x)) new)
 
 -- The answer by its number, if the ticket would leave the facts of these words.
 abbrev pub answer : ℕ → List ℕ → List ℕ → Answer
-answer zero w new = record { number = 0; added = besides (filled w) new; removed = besides new (filled w); table = padded (length w) new }
+answer zero w new = record {
+  number = 0;
+  added = besides (filled w) new;
+  removed = besides new (filled w);
+  table = padded (length w) new;
+}
 answer (suc n) w new = record { number = suc n; added = 0; removed = 0; table = w }
 
 -- One ticket, whatever its bytes, on the words of a table, whatever they are.

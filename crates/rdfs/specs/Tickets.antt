@@ -81,12 +81,14 @@ badIds top t = unusedNotZero t || (markMisplaced t || aboveHighest top t)
 
 -- 8: deletion of Cl(0), or of CSub or CI with b = 0.
 abbrev pub guarded : Ticket → Bool
-guarded t = deletes t && ((eqb (t .kind) 1 && eqb (t .a) 0) || ((eqb (t .kind) 5 || eqb (t .kind) 9) && eqb (t .b) 0))
+guarded t = deletes t && ((eqb (t .kind) 1 && eqb (t .a) 0) || ((eqb (t .kind) 5 || eqb (t .kind) 9) && eqb
+    (t .b) 0))
 
 -- 9: inserting PSub with a or b not a property of the table, or PI with c not one.
 abbrev pub unknownProperty : List Fact → Ticket → Bool
 unknownProperty K t =
-    inserts t && ((eqb (t .kind) 6 && (not (has K (pr (t .a))) || not (has K (pr (t .b))))) || (eqb (t .kind) 10 && not (has K (pr (t .c)))))
+    inserts t && ((eqb (t .kind) 6 && (not (has K (pr (t .a))) || not (has K (pr (t .b)))))
+    || (eqb (t .kind) 10 && not (has K (pr (t .c)))))
 
 -- 10: what the rules demand beside the table and the asked facts breaks a rule that forbids.
 abbrev pub clashing : List Fact → Ticket → Bool

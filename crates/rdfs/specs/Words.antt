@@ -28,7 +28,8 @@ isFact N w = let f : Fact = fact (N .base) w in eqb (word (N .base) f) w && allo
 -- Words of facts from `least` on, ascending, none twice, then zeros to the end.
 abbrev pub laidOut : Numbers → ℕ → List ℕ → Bool
 laidOut N least [] = true
-laidOut N least (w ∷ l) = cond (eqb w 0) (all (λ x. eqb x 0) l) (leb least w && (isFact N w && laidOut N (suc w) l))
+laidOut N least (w ∷ l) =
+    cond (eqb w 0) (all (λ x. eqb x 0) l) (leb least w && (isFact N w && laidOut N (suc w) l))
 
 -- The words of a table before its zeros, and the facts they stand for.
 abbrev pub filled : List ℕ → List ℕ

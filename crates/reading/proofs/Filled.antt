@@ -19,7 +19,8 @@ pub record Filled (bytes t₀ t : List ℕ) (done place : ℕ) : Type 0 where
 pub filled-start : (bytes t : List ℕ) → Filled bytes t t 0 0
 filled-start bytes t = record { passed = passed-start bytes; so-far = refl }
 
-module _ {bytes t₀ t : List ℕ} {done place : ℕ} (f : Filled bytes t₀ t done place) (room : length (wordsOf product form bytes) ≤ length t₀) where
+module _ {bytes t₀ t : List ℕ} {done place : ℕ} (f : Filled bytes t₀ t done place) (room : length (wordsOf product form bytes)
+    ≤ length t₀) where
   abbrev words : List ℕ
   words = wordsOf product form bytes
 
@@ -27,9 +28,11 @@ module _ {bytes t₀ t : List ℕ} {done place : ℕ} (f : Filled bytes t₀ t d
   firsts = length-take-le place words (f .passed .fits)
 
   pub filled-length : length t ≡ length t₀
-  filled-length = ap length (f .so-far) ∙ (length-append (take place words) (drop place t₀) ∙ omega (arith, firsts, length-drop place t₀, f .passed .fits, room))
+  filled-length = ap length (f .so-far) ∙ (length-append (take place words) (drop place t₀)
+      ∙ omega (arith, firsts, length-drop place t₀, f .passed .fits, room))
 
-  module _ (h : done < form .entries) (from count : ℕ) (e : from ≡ startAt form bytes (done + 1)) (d : count ≡ countAt form bytes (done + 1)) where
+  module _ (h : done < form .entries) (from count : ℕ) (e : from ≡ startAt form bytes (done + 1)) (d : count ≡ countAt form bytes
+      (done + 1)) where
     pub filled-room : place + count ≤ length t
     filled-room = omega (arith, passed-next (f .passed) h count d .1, room, filled-length)
 
@@ -39,22 +42,29 @@ module _ {bytes t₀ t : List ℕ} {done place : ℕ} (f : Filled bytes t₀ t d
     body-long : length body ≡ count
     body-long = wordsFrom-length product form bytes (done + 1) count from
 
-    pub filled-more : count < fieldValues form → (t′ : List ℕ) → t′ ≡ paste t place body count → Filled bytes t₀ t′ (done + 1) (place + count)
+    pub filled-more : count < fieldValues form → (t′ : List ℕ) → t′ ≡ paste t place body count
+        → Filled bytes t₀ t′ (done + 1) (place + count)
     filled-more small t′ q =
-        let low : take place t ≡ take place words = ap (take place) (f .so-far) ∙ take-at (take place words) (drop place t₀) place firsts in
+        let low : take place t ≡ take place words =
+        ap (take place) (f .so-far) ∙ take-at (take place words) (drop place t₀) place firsts in
         let all : take count body ≡ body = take-all count body (omega (arith, body-long)) in
         let at : place + count ≡ length (take place words) + count = omega (arith, firsts) in
         let high : drop (place + count) t ≡ drop (place + count) t₀ =
-        ap (drop (place + count)) (f .so-far) ∙ (ap (λ n. drop n (take place words ++ drop place t₀)) at ∙ (drop-append-add (take place words) (drop place t₀) count ∙ drop-drop count place t₀)) in
+        ap (drop (place + count)) (f .so-far) ∙ (ap (λ n. drop n (take place words ++ drop place t₀)) at
+        ∙ (drop-append-add (take place words) (drop place t₀) count ∙ drop-drop count place t₀)) in
         let same : wordsIn product form bytes (done + 1) ≡ body =
-        ap (λ n. wordsFrom product form bytes (done + 1) n (startAt form bytes (done + 1))) (sym d) ∙ ap (wordsFrom product form bytes (done + 1) count) (sym e) in
-        let next : drop place words ≡ body ++ later bytes (done + 1) = passed-next (f .passed) h count d .0 ∙ ap (λ l. l ++ later bytes (done + 1)) same in
+        ap (λ n. wordsFrom product form bytes (done + 1) n (startAt form bytes (done + 1))) (sym d)
+        ∙ ap (wordsFrom product form bytes (done + 1) count) (sym e) in
+        let next : drop place words ≡ body ++ later bytes (done + 1) =
+        passed-next (f .passed) h count d .0 ∙ ap (λ l. l ++ later bytes (done + 1)) same in
         let more : take (place + count) words ≡ take place words ++ body =
-        take-add place count words ∙ ap (λ l. take place words ++ l) (ap (take count) next ∙ take-at body (later bytes (done + 1)) count body-long) in
+        take-add place count words ∙ ap (λ l. take place words ++ l) (ap (take count) next ∙ take-at body (later bytes (done + 1))
+        count body-long) in
         record {
           passed = passed-more (f .passed) h count d small;
           so-far =
-              q ∙ (ap (λ l. (l ++ take count body) ++ drop (place + count) t) low ∙ (ap (λ l. (take place words ++ l) ++ drop (place + count) t) all
+              q ∙ (ap (λ l. (l ++ take count body) ++ drop (place + count) t) low
+              ∙ (ap (λ l. (take place words ++ l) ++ drop (place + count) t) all
               ∙ (ap (λ l. (take place words ++ body) ++ l) high ∙ ap (λ l. l ++ drop (place + count) t₀) (sym more))));
         }
 

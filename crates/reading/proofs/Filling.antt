@@ -24,7 +24,8 @@ later-all : (bytes : List ℕ) → words bytes ≡ later bytes 0
 unfolding wordsOf
 later-all bytes = refl
 
-later-more : (bytes : List ℕ) (done : ℕ) → done < form .entries → later bytes done ≡ wordsIn product form bytes (done + 1) ++ later bytes (done + 1)
+later-more : (bytes : List ℕ) (done : ℕ) → done < form .entries → later bytes done ≡ wordsIn product form bytes (done + 1)
+    ++ later bytes (done + 1)
 later-more bytes done h = ap (concatMap (wordsIn product form bytes)) (kinds-more (form .entries) done h)
 
 later-none : (bytes : List ℕ) (done : ℕ) → form .entries ≤ done → later bytes done ≡ []
@@ -44,19 +45,34 @@ pub passed-start : (bytes : List ℕ) → Passed bytes 0 0
 passed-start bytes = record { within = omega arith; small = omega arith; fits = omega arith; rest = later-all bytes }
 
 module _ {bytes : List ℕ} {done place : ℕ} (p : Passed bytes done place) where
-  pub passed-next : done < form .entries → (count : ℕ) → count ≡ countAt form bytes (done + 1) → (drop place (words bytes) ≡ wordsIn product form bytes (done + 1) ++ later bytes (done + 1)) × (place + count ≤ length (words bytes))
+  pub passed-next : done < form .entries → (count : ℕ) → count ≡ countAt form bytes (done + 1)
+      → (drop place (words bytes) ≡ wordsIn product form bytes (done + 1) ++ later bytes (done + 1))
+      × (place + count ≤ length (words bytes))
   passed-next h count e =
-      let split = p .rest ∙ later-more bytes done h in
-      (split, omega (arith, p .fits, e, length-drop place (words bytes), ap length split, length-append (wordsIn product form bytes (done + 1)) (later bytes (done + 1)), kind-length bytes (done + 1)))
+      let split = p .rest ∙ later-more bytes done h in (
+        split,
+        omega (
+          arith,
+          p .fits,
+          e,
+          length-drop place (words bytes),
+          ap length split,
+          length-append (wordsIn product form bytes (done + 1)) (later bytes (done + 1)),
+          kind-length bytes (done + 1),
+        ),
+      )
 
-  pub passed-more : done < form .entries → (count : ℕ) → count ≡ countAt form bytes (done + 1) → count < fieldValues form → Passed bytes (done + 1) (place + count)
+  pub passed-more : done < form .entries → (count : ℕ) → count ≡ countAt form bytes (done + 1) → count < fieldValues form
+      → Passed bytes (done + 1) (place + count)
   passed-more h count e l =
       let n = passed-next h count e in
       record {
         within = omega arith;
         small = omega (arith, p .small);
         fits = n .1;
-        rest = sym (drop-drop count place (words bytes)) ∙ (ap (drop count) (n .0) ∙ drop-at (wordsIn product form bytes (done + 1)) (later bytes (done + 1)) count (kind-length bytes (done + 1) ∙ sym e));
+        rest = sym (drop-drop count place (words bytes))
+            ∙ (ap (drop count) (n .0) ∙ drop-at (wordsIn product form bytes (done + 1)) (later bytes (done + 1)) count
+            (kind-length bytes (done + 1) ∙ sym e));
       }
 
   pub passed-all : form .entries ≤ done → place ≡ length (words bytes)
@@ -64,10 +80,12 @@ module _ {bytes : List ℕ} {done place : ℕ} (p : Passed bytes done place) whe
 
 -- The first i facts of a body are stored; the next stands at p.
 module _ (bytes : List ℕ) (k from count : ℕ) where
-  word-there : (i : ℕ) → i < count → getD (wordsFrom product form bytes k count from) i 0 ≡ wordAt product form bytes k (from + factSize form k * i)
+  word-there : (i : ℕ) → i < count → getD (wordsFrom product form bytes k count from) i 0 ≡ wordAt product form bytes k
+      (from + factSize form k * i)
   word-there i h = go count i from h
     where
-      go : (n i from : ℕ) → i < n → getD (wordsFrom product form bytes k n from) i 0 ≡ wordAt product form bytes k (from + factSize form k * i)
+      go : (n i from : ℕ) → i < n → getD (wordsFrom product form bytes k n from) i 0 ≡ wordAt product form bytes k
+          (from + factSize form k * i)
       go zero i from h = absurd (omega arith)
       go (suc n) zero from h = let same : from ≡ from + factSize form k * 0 = omega arith in ap (wordAt product form bytes k) same
       go (suc n) (suc i) from h =
@@ -80,13 +98,16 @@ module _ (bytes : List ℕ) (k from count : ℕ) where
     pub so-far : t ≡ paste t₀ place (wordsFrom product form bytes k count from) i
 
   pub stored-start : (t₀ : List ℕ) (place : ℕ) → Stored t₀ place t₀ 0 from
-  stored-start t₀ place = record { within = omega arith; at = omega arith; so-far = paste-zero t₀ place (wordsFrom product form bytes k count from) }
+  stored-start t₀ place =
+      record { within = omega arith; at = omega arith; so-far = paste-zero t₀ place (wordsFrom product form bytes k count from) }
 
   module _ {t₀ : List ℕ} {place : ℕ} {t : List ℕ} {i p : ℕ} (s : Stored t₀ place t i p) (room : place + count ≤ length t₀) where
     pub stored-length : length t ≡ length t₀
-    stored-length = ap length (s .so-far) ∙ length-paste t₀ place (wordsFrom product form bytes k count from) i (omega (arith, s .within)) (omega (arith, s .within, wordsFrom-length product form bytes k count from))
+    stored-length = ap length (s .so-far) ∙ length-paste t₀ place (wordsFrom product form bytes k count from) i
+        (omega (arith, s .within)) (omega (arith, s .within, wordsFrom-length product form bytes k count from))
 
-    pub stored-more : i < count → (w : ℕ) → w ≡ wordAt product form bytes k p → (size : ℕ) → size ≡ factSize form k → Stored t₀ place (set t (place + i) w) (i + 1) (p + size)
+    pub stored-more : i < count → (w : ℕ) → w ≡ wordAt product form bytes k p → (size : ℕ) → size ≡ factSize form k
+        → Stored t₀ place (set t (place + i) w) (i + 1) (p + size)
     stored-more h w e size z =
         let ws : List ℕ = wordsFrom product form bytes k count from in
         let same : w ≡ getD ws i 0 = e ∙ (ap (wordAt product form bytes k) (s .at) ∙ sym (word-there i h)) in
@@ -95,8 +116,10 @@ module _ (bytes : List ℕ) (k from count : ℕ) where
           at = omega (arith, s .at, z);
           so-far =
               ap (λ l. set l (place + i) w) (s .so-far) ∙ (ap (set (paste t₀ place ws i) (place + i)) same
-              ∙ (paste-suc t₀ place ws i 0 (omega arith) (omega (arith, wordsFrom-length product form bytes k count from)) ∙ ap (paste t₀ place ws) (sym (add-one i))));
+              ∙ (paste-suc t₀ place ws i 0 (omega arith) (omega (arith, wordsFrom-length product form bytes k count from))
+              ∙ ap (paste t₀ place ws) (sym (add-one i))));
         }
 
     pub stored-end : count ≤ i → t ≡ paste t₀ place (wordsFrom product form bytes k count from) count
-    stored-end h = let all : i ≡ count = omega (arith, s .within) in s .so-far ∙ ap (paste t₀ place (wordsFrom product form bytes k count from)) all
+    stored-end h = let all : i ≡ count = omega (arith, s .within) in
+        s .so-far ∙ ap (paste t₀ place (wordsFrom product form bytes k count from)) all

@@ -34,12 +34,15 @@ take-zeros zero (suc n) h = absurd (omega arith)
 take-zeros (suc m) (suc n) h = ap (λ l. 0 ∷ l) (take-zeros m n (omega arith))
 
 -- Words that are no zeros are laid out if they are with zeros after them, and only then.
-laid-before : (last : ℕ) (l : List ℕ) (m : ℕ) → ((x : ℕ) → x ∈ l → 0 < x) → laidOut product (suc last) (l ++ replicate m 0) ≡ laidOut product (suc last) l
-laid-before last [] m h = is-true {b = laidOut product (suc last) (replicate m 0)} (laid-from product (suc last) [] m (omega arith) tt (λ x k. absurd (none-in k)))
+laid-before : (last : ℕ) (l : List ℕ) (m : ℕ) → ((x : ℕ) → x ∈ l → 0 < x) → laidOut product (suc last) (l ++ replicate m 0)
+    ≡ laidOut product (suc last) l
+laid-before last [] m h = is-true {b = laidOut product (suc last) (replicate m 0)} (laid-from product (suc last) [] m
+    (omega arith) tt (λ x k. absurd (none-in k)))
 laid-before last (w ∷ l) m h =
     let some : 0 < w = h w (here refl) in
     laid-some (suc last) w (l ++ replicate m 0) some
-    ∙ (ap (λ b. leb (suc last) w && (isFact product w && b)) (laid-before w l m (λ x k. h x (there k))) ∙ sym (laid-some (suc last) w l some))
+    ∙ (ap (λ b. leb (suc last) w && (isFact product w && b)) (laid-before w l m (λ x k. h x (there k)))
+    ∙ sym (laid-some (suc last) w l some))
 
 -- A table of right size that holds the words of some bytes, then zeros.
 module _ (t bytes : List ℕ) (size : badSize product t ≡ false) (h : length (wordsOf product form bytes) ≤ length t) where
@@ -55,8 +58,13 @@ module _ (t bytes : List ℕ) (size : badSize product t ≡ false) (h : length (
   -- Its refusals are those of the words.
   pub held-checked : tableRefusal product held 0 ≡ orElse (badLayout product l) 2 (orElse (inconsistent product l) 3 0)
   held-checked =
-      let sized : badSize product held ≡ false = ap (λ n. leb n 0 || ltb (product .most) n) (padded-length (length t) l h) ∙ size in
-      let laid : badLayout product held ≡ badLayout product l = ap not (laid-before 0 l (length t - length l) (words-some product form product-sound bytes)) in
-      let same : inconsistent product held ≡ inconsistent product l = ap (λ m. not (consistent? (map (fact (product .base)) m))) (held-filled ∙ sym (words-full product form product-sound bytes)) in
+      let sized : badSize product held ≡ false = ap (λ n. leb n 0 || ltb (product .most) n) (padded-length (length t) l h)
+      ∙ size in
+      let laid : badLayout product held ≡ badLayout product l =
+      ap not (laid-before 0 l (length t - length l) (words-some product form product-sound bytes)) in
+      let same : inconsistent product held ≡ inconsistent product l =
+      ap (λ m. not (consistent? (map (fact (product .base)) m))) (held-filled
+      ∙ sym (words-full product form product-sound bytes)) in
       ap (λ b. orElse b 1 (orElse (badLayout product held) 2 (orElse (inconsistent product held) 3 0))) sized
-      ∙ (ap (λ b. orElse b 2 (orElse (inconsistent product held) 3 0)) laid ∙ ap (λ b. orElse (badLayout product l) 2 (orElse b 3 0)) same)
+      ∙ (ap (λ b. orElse b 2 (orElse (inconsistent product held) 3 0)) laid
+      ∙ ap (λ b. orElse (badLayout product l) 2 (orElse b 3 0)) same)

@@ -38,7 +38,10 @@ overfull-some true r e z = omega (arith, e, z)
 overfull-some false r e z = omega (arith, e, z)
 
 pub size-most : (t : List ℕ) → badSize product t ≡ false → length t ≤ product .most
-size-most t e = elim (decLt (product .most) (length t)) [ yes h ↦ absurd (subst T e (tests-size product t .complete (inr h))) | no h ↦ omega (arith, h) ]
+size-most t e = elim (decLt (product .most) (length t)) [
+  | yes h ↦ absurd (subst T e (tests-size product t .complete (inr h)))
+  | no h ↦ omega (arith, h)
+]
 
 -- The words that bytes give, and refusal 3 of them, or 0.
 abbrev words : List ℕ → List ℕ
@@ -49,7 +52,8 @@ last bytes = orElse (inconsistent product (words bytes)) 3 0
 
 module _ (t bytes : List ℕ) where
   pub read-refused : (n : ℕ) → n ≡ readAnswer t bytes → (n ≡ 0 → ⊥) → ReadPromise t bytes n t
-  read-refused n e h = (e, sym (ap (λ b. cond b (padded (length t) (words bytes)) t) (ne-eqb (readAnswer t bytes) 0 (λ z. h (e ∙ z)))))
+  read-refused n e h =
+      (e, sym (ap (λ b. cond b (padded (length t) (words bytes)) t) (ne-eqb (readAnswer t bytes) 0 (λ z. h (e ∙ z)))))
 
   pub read-done : 0 ≡ readAnswer t bytes → (t′ : List ℕ) → t′ ≡ padded (length t) (words bytes) → ReadPromise t bytes 0 t′
   read-done e t′ h = (e, h ∙ sym (ap (λ b. cond b (padded (length t) (words bytes)) t) (eq-eqb (readAnswer t bytes) 0 (sym e))))
@@ -67,15 +71,20 @@ module _ (t bytes : List ℕ) where
     read-malformed e = sym (read-sized ∙ ap (λ b. orElse b 12 (orElse (ltb (length t) (length (words bytes))) 11 (last bytes))) e)
 
     -- More words than the table has: 12 or 11.
-    pub read-overfull : length t < length (words bytes) → (r : ℕ) → r ≡ orElse (malformed product form bytes) 12 11 → r ≡ readAnswer t bytes
-    read-overfull h r e = e ∙ sym (read-sized ∙ ap (λ b. orElse (malformed product form bytes) 12 (orElse b 11 (last bytes))) (lt-ltb (length t) (length (words bytes)) h))
+    pub read-overfull : length t < length (words bytes) → (r : ℕ) → r ≡ orElse (malformed product form bytes) 12 11
+        → r ≡ readAnswer t bytes
+    read-overfull h r e = e ∙ sym (read-sized ∙ ap (λ b. orElse (malformed product form bytes) 12 (orElse b 11 (last bytes)))
+        (lt-ltb (length t) (length (words bytes)) h))
 
     -- No more: 12, 3 or 0.
-    pub read-fitting : length (words bytes) ≤ length t → readAnswer t bytes ≡ orElse (malformed product form bytes) 12 (last bytes)
-    read-fitting h = read-sized ∙ ap (λ b. orElse (malformed product form bytes) 12 (orElse b 11 (last bytes))) (le-ltb (length t) (length (words bytes)) h)
+    pub read-fitting : length (words bytes) ≤ length t → readAnswer t bytes ≡ orElse (malformed product form bytes) 12
+        (last bytes)
+    read-fitting h = read-sized ∙ ap (λ b. orElse (malformed product form bytes) 12 (orElse b 11 (last bytes)))
+        (le-ltb (length t) (length (words bytes)) h)
 
   -- Not refused.
-  pub read-parts : 0 ≡ readAnswer t bytes → (badSize product t ≡ false) × (malformed product form bytes ≡ false) × (length (words bytes) ≤ length t) × (last bytes ≡ 0)
+  pub read-parts : 0 ≡ readAnswer t bytes → (badSize product t ≡ false) × (malformed product form bytes ≡ false)
+      × (length (words bytes) ≤ length t) × (last bytes ≡ 0)
   read-parts e =
       let more : Bool = ltb (length t) (length (words bytes)) in
       let a = passed-link (badSize product t) 1 (imageRefusal bytes (length t) (last bytes)) 0 (omega arith) (sym e) in
@@ -85,14 +94,17 @@ module _ (t bytes : List ℕ) where
 
   pub read-length : length (readWords t bytes) ≡ length t
   read-length = elim (ℕ-discrete (readAnswer t bytes) 0) [
-    | yes e ↦ ap length (sym (read-done (sym e) (padded (length t) (words bytes)) refl .1)) ∙ padded-length (length t) (words bytes) (read-parts (sym e) .2)
+    | yes e ↦ ap length (sym (read-done (sym e) (padded (length t) (words bytes)) refl .1))
+        ∙ padded-length (length t) (words bytes) (read-parts (sym e) .2)
     | no n ↦ ap length (sym (read-refused (readAnswer t bytes) refl n .1))
   ]
 
 -- A work table of zeros into which the words of an image that fits were stored, and the answer r of its check.
-module _ (t bytes : List ℕ) (b : AllBytes bytes) (f : Fitting t bytes) (zeros : List ℕ) (z : zeros ≡ replicate (length t) 0) (work : List ℕ) (e : work ≡ words bytes ++ drop (length (words bytes)) zeros) where
+module _ (t bytes : List ℕ) (b : AllBytes bytes) (f : Fitting t bytes) (zeros : List ℕ) (z : zeros ≡ replicate (length t) 0)
+    (work : List ℕ) (e : work ≡ words bytes ++ drop (length (words bytes)) zeros) where
   pub work-held : work ≡ padded (length t) (words bytes)
-  work-held = e ∙ (ap (λ l. words bytes ++ drop (length (words bytes)) l) z ∙ ap (λ l. words bytes ++ l) (drop-zeros (length t) (length (words bytes))))
+  work-held = e ∙ (ap (λ l. words bytes ++ drop (length (words bytes)) l) z
+      ∙ ap (λ l. words bytes ++ l) (drop-zeros (length t) (length (words bytes))))
 
   pub work-length : length work ≡ length t
   work-length = ap length work-held ∙ padded-length (length t) (words bytes) (f .fits)
@@ -106,11 +118,13 @@ module _ (t bytes : List ℕ) (b : AllBytes bytes) (f : Fitting t bytes) (zeros 
     -- 2 is 12, and any other answer is reading's.
     pub work-malformed : r ≡ 2 → 12 ≡ readAnswer t bytes
     work-malformed h =
-        else-is (malformed product form bytes) 2 12 r (last bytes) judged h (never (inconsistent product (words bytes))) ∙ sym (read-fitting t bytes (f .size) (f .fits))
+        else-is (malformed product form bytes) 2 12 r (last bytes) judged h (never (inconsistent product (words bytes)))
+        ∙ sym (read-fitting t bytes (f .size) (f .fits))
       where
         never : (i : Bool) → orElse i 3 0 ≡ 2 → ⊥
         never true = λ z. omega (arith, z)
         never false = λ z. omega (arith, z)
 
     pub work-answer : (r ≡ 2 → ⊥) → r ≡ readAnswer t bytes
-    work-answer h = else-not (malformed product form bytes) 2 12 r (last bytes) judged h ∙ sym (read-fitting t bytes (f .size) (f .fits))
+    work-answer h = else-not (malformed product form bytes) 2 12 r (last bytes) judged h
+        ∙ sym (read-fitting t bytes (f .size) (f .fits))

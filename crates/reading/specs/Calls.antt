@@ -13,11 +13,13 @@ use Rattle.contents.specs.Reading.{wordsOf, malformed}
 
 -- Refusals 12 and 11 of bytes that are to be read into a number of words, then others.
 abbrev pub imageRefusal : List ℕ → ℕ → ℕ → ℕ
-imageRefusal bytes room rest = orElse (malformed product form bytes) 12 (orElse (ltb room (length (wordsOf product form bytes))) 11 rest)
+imageRefusal bytes room rest =
+    orElse (malformed product form bytes) 12 (orElse (ltb room (length (wordsOf product form bytes))) 11 rest)
 
 -- Reading: refusals 1, 12, 11, 3. The table's words are not looked at.
 abbrev pub readAnswer : List ℕ → List ℕ → ℕ
-readAnswer t bytes = orElse (badSize product t) 1 (imageRefusal bytes (length t) (orElse (inconsistent product (wordsOf product form bytes)) 3 0))
+readAnswer t bytes = orElse (badSize product t) 1 (imageRefusal bytes (length t)
+    (orElse (inconsistent product (wordsOf product form bytes)) 3 0))
 
 -- The image's words, then zeros; on refusal the words as they were.
 abbrev pub readWords : List ℕ → List ℕ → List ℕ

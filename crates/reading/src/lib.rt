@@ -7,17 +7,17 @@ ghost use Rattle.reading.specs.Calls.{ReadPromise};
 mod reader;
 
 use contents::has_contents;
-use reader::MALFORMED;
 use reader::count_words;
 use reader::overfull_refusal;
 use reader::read_through;
 use table::BAD_SIZE;
+use table::MALFORMED;
 use table::MOST;
 use table::Word;
 use table::is_bad_size;
 
-// Reads an image into a table: its words, then zeros. Refused with 1, 12, 11 or 3, the words are as they were. The words that the table
-// held are not looked at.
+// Reads an image into a table: its words, then zeros. Refused with 1, 12, 11 or 3, the words are as they
+// were. The words that the table held are not looked at.
 pub fn read(t: &mut [Word], image: &[u8]) -> u8
     ensures { λ r. ⌜ ReadPromise (now (t .entry)) (now (image .entry)) r (now (t .exit)) ⌝ }
 {

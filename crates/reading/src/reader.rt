@@ -19,13 +19,10 @@ use contents::is_rising;
 use contents::start_at;
 use contents::word_at;
 use table::BAD_LAYOUT;
+use table::MALFORMED;
+use table::TOO_MANY;
 use table::Word;
 use table::copy_words;
-
-// Refusal 12: an image that is malformed.
-pub const MALFORMED: u8 = 12;
-// Refusal 11: an image with more facts than the table has words.
-pub const FULL: u8 = 11;
 
 // How many facts the contents give, over all kinds. The sum is wide.
 pub fn count_words(image: &[u8]) -> usize
@@ -50,15 +47,17 @@ pub fn overfull_refusal(image: &[u8]) -> u8
 {
     let rising = is_rising(image);
     if rising {
-        return FULL;
+        return TOO_MANY;
     }
     MALFORMED
 }
 
 // Stores the words of the count facts of kind k from place `from` on, from place `place` of the table on.
 fn fill_body(t: &mut [Word], place: usize, image: &[u8], k: Word, from: usize, count: usize)
-    requires { ⌜ (1 ≤ k) × (k ≤ form .entries) × (from + factSize form k * count ≤ length (now image)) × (place + count ≤ length (now t)) ⌝ }
-    ensures { λ _. ⌜ now (t .exit) ≡ paste (now (t .entry)) place (wordsFrom product form (now (image .entry)) k count from) count ⌝ }
+    requires { ⌜ (1 ≤ k) × (k ≤ form .entries) × (from + factSize form k * count ≤ length (now image))
+        × (place + count ≤ length (now t)) ⌝ }
+    ensures { λ _. ⌜ now (t .exit) ≡ paste (now (t .entry)) place (wordsFrom product form (now (image .entry))
+        k count from) count ⌝ }
 {
     let size = fact_size(k);
     let mut i = 0;
@@ -74,7 +73,8 @@ fn fill_body(t: &mut [Word], place: usize, image: &[u8], k: Word, from: usize, c
 // Stores the words of an image from the table's first place on.
 fn fill_words(t: &mut [Word], image: &[u8])
     requires { ⌜ Contents form (now image) × (length (wordsOf product form (now image)) ≤ length (now t)) ⌝ }
-    ensures { λ _. ⌜ now (t .exit) ≡ wordsOf product form (now (image .entry)) ++ drop (length (wordsOf product form (now (image .entry)))) (now (t .entry)) ⌝ }
+    ensures { λ _. ⌜ now (t .exit) ≡ wordsOf product form (now (image .entry)) ++ drop
+        (length (wordsOf product form (now (image .entry)))) (now (t .entry)) ⌝ }
 {
     let mut done: Word = 0;
     let mut place = 0;
@@ -88,8 +88,8 @@ fn fill_words(t: &mut [Word], image: &[u8])
     }
 }
 
-// Reads an image with right contents and facts that fit, through a work table of as many zeros as the table has words. The words are not
-// laid out exactly if the image is malformed, so refusal 2 of the check is 12.
+// Reads an image with right contents and facts that fit, through a work table of as many zeros as the table
+// has words. The words are not laid out exactly if the image is malformed, so refusal 2 of the check is 12.
 pub fn read_through(t: &mut [Word], work: &mut [Word], image: &[u8]) -> u8
     requires { ⌜ Fitting (now t) (now image) × (now work ≡ replicate (length (now t)) 0) ⌝ }
     ensures { λ r. ⌜ ReadPromise (now (t .entry)) (now (image .entry)) r (now (t .exit)) ⌝ }

@@ -20,10 +20,12 @@ use Rattle.records.specs.Turns.{turnsOf}
 -- The tickets of records are their bytes.
 cut-records : (tickets : List Ticket) → cut recordLength (recordBytes tickets) ≡ map bytesOf tickets
 cut-records [] = refl
-cut-records (t ∷ l) = cut-record recordLength (omega arith) (bytesOf t) (recordBytes l) refl ∙ ap (λ c. bytesOf t ∷ c) (cut-records l)
+cut-records (t ∷ l) = cut-record recordLength (omega arith) (bytesOf t) (recordBytes l) refl
+    ∙ ap (λ c. bytesOf t ∷ c) (cut-records l)
 
 -- The refusal says how many tickets are run, none if the list is refused.
-module _ (w : List ℕ) (l : List Ticket) (answers : List ℕ) {a n : ℕ} {v : List ℕ} (judged : a ≡ refusalOf w (length l) (length answers)) (turns : n ≡ turnsOf a (length l)) (kept : v ≡ w) where
+module _ (w : List ℕ) (l : List Ticket) (answers : List ℕ) {a n : ℕ} {v : List ℕ} (judged : a ≡ refusalOf w (length l)
+    (length answers)) (turns : n ≡ turnsOf a (length l)) (kept : v ≡ w) where
   records-counted : length l ≡ length (cut recordLength (recordBytes l))
   records-counted = sym (ap length (cut-records l) ∙ length-map l bytesOf)
 
@@ -51,21 +53,26 @@ module _ (w : List ℕ) (l : List Ticket) (answers : List ℕ) {a n : ℕ} {v : 
   -- All of them are run, or none.
   all-run : a ≡ 0 → run product v (map bytesOf (take n l)) ≡ register product v (recordBytes l)
   unfolding register
-  all-run e = ap (λ m. run product v (map bytesOf m)) (take-all n l (omega (arith, all-turns e))) ∙ ap (run product v) (sym (cut-records l))
+  all-run e = ap (λ m. run product v (map bytesOf m)) (take-all n l (omega (arith, all-turns e)))
+      ∙ ap (run product v) (sym (cut-records l))
 
   none-run : (a ≡ 0 → ⊥) → run product v (map bytesOf (take n l)) ≡ record { numbers = []; counts = []; table = v }
   unfolding run
   none-run h = ap (λ m. run product v (map bytesOf (take m l))) (no-turns h)
 
-  module _ {k : ℕ} {r : Listed} {u out : List ℕ} (ran : AllRun k u answers out (run product v (map bytesOf (take n l)))) (e : r ≡ listedOf a n k) where
+  module _ {k : ℕ} {r : Listed} {u out : List ℕ} (ran : AllRun k u answers out (run product v (map bytesOf (take n l))))
+      (e : r ≡ listedOf a n k) where
     records-run : a ≡ 0 → ListAnswered r u out (listing w (recordBytes l) answers)
-    records-run q = list-run w (recordBytes l) answers records-counted judged kept (subst (AllRun k u answers out) (all-run q) ran) q (e ∙ ap (λ m. listedOf a m k) (all-turns q))
+    records-run q = list-run w (recordBytes l) answers records-counted judged kept (subst (AllRun k u answers out) (all-run q)
+        ran) q (e ∙ ap (λ m. listedOf a m k) (all-turns q))
 
     records-refused : (a ≡ 0 → ⊥) → ListAnswered r u out (listing w (recordBytes l) answers)
     records-refused q =
-        let none : AllRun k u answers out (record { numbers = []; counts = []; table = v }) = subst (AllRun k u answers out) (none-run q) ran in
+        let none : AllRun k u answers out (record { numbers = []; counts = []; table = v }) =
+        subst (AllRun k u answers out) (none-run q) ran in
         let nothing : r ≡ listedOf a 0 0 = e ∙ (ap (λ m. listedOf a m k) (no-turns q) ∙ ap (listedOf a 0) (none .accepted)) in
-        subst (λ o. ListAnswered r u o (listing w (recordBytes l) answers)) (sym (none .numbers)) (list-refused w (recordBytes l) answers records-counted judged (none .words ∙ kept) q nothing)
+        subst (λ o. ListAnswered r u o (listing w (recordBytes l) answers)) (sym (none .numbers)) (list-refused w (recordBytes l)
+        answers records-counted judged (none .words ∙ kept) q nothing)
 
     pub records-done : ListAnswered r u out (listing w (recordBytes l) answers)
     records-done = elim (ℕ-discrete a 0) [ yes q ↦ records-run q | no q ↦ records-refused q ]

@@ -12,11 +12,22 @@ use Rattle.ticket_form.specs.Form.{bytesOf}
 use Rattle.ticket_form.specs.declared.Ticket.{Ticket}
 use Rattle.list_form.specs.Loops.{OneRun, AllRun}
 use Rattle.records.specs.Turns.{blank}
-use Rattle.list_form.proofs.Walked.{Walked, walked-start, walked-place, walked-accepted, walked-out, walked-words, walked-table, walked-more, walked-done}
+use Rattle.list_form.proofs.Walked.{
+  Walked,
+  walked-start,
+  walked-place,
+  walked-accepted,
+  walked-out,
+  walked-words,
+  walked-table,
+  walked-more,
+  walked-done,
+}
 
 -- Of the first n tickets, i are run.
 abbrev pub RecordWalk : (start room : List ℕ) (tickets : List Ticket) (n i ok : ℕ) (w out : List ℕ) → Type 0
-RecordWalk start room tickets n i ok w out = Walked start room (map bytesOf (take n tickets)) (map bytesOf (drop i (take n tickets))) i ok w out
+RecordWalk start room tickets n i ok w out =
+    Walked start room (map bytesOf (take n tickets)) (map bytesOf (drop i (take n tickets))) i ok w out
 
 module _ (start room : List ℕ) (tickets : List Ticket) (n : ℕ) where
   abbrev all : List (List ℕ)
@@ -25,7 +36,8 @@ module _ (start room : List ℕ) (tickets : List Ticket) (n : ℕ) where
   pub record-start : RecordWalk start room tickets n 0 0 start room
   record-start = walked-start start room all
 
-  pub record-done : {i ok : ℕ} {w out : List ℕ} → n ≤ i → RecordWalk start room tickets n i ok w out → AllRun ok w room out (run product start all)
+  pub record-done : {i ok : ℕ} {w out : List ℕ} → n ≤ i → RecordWalk start room tickets n i ok w out
+      → AllRun ok w room out (run product start all)
   record-done {i} {ok} {w} {out} h q =
       let short : length (take n tickets) ≤ i = omega (arith, h, length-take n tickets) in
       let none : drop i (take n tickets) ≡ [] = drop-of-length-le (take n tickets) short in
@@ -47,16 +59,19 @@ module _ (start room : List ℕ) (tickets : List Ticket) (n : ℕ) where
     pub record-table : Table product start → Table product w
     record-table t = walked-table start room all size q t
 
-  module _ (there : n ≤ length tickets) (fits : n ≤ length room) {i ok : ℕ} {w out : List ℕ} (q : RecordWalk start room tickets n i ok w out) (h : i < n) where
+  module _ (there : n ≤ length tickets) (fits : n ≤ length room) {i ok : ℕ} {w out : List ℕ} (q : RecordWalk start room tickets n
+      i ok w out) (h : i < n) where
     next : Walked start room all (bytesOf (getD tickets i blank) ∷ map bytesOf (drop (i + 1) (take n tickets))) i ok w out
     next =
         let within : i < length (take n tickets) = omega (arith, h, length-take-le n tickets there) in
         let first : drop i (take n tickets) ≡ getD tickets i blank ∷ drop (i + 1) (take n tickets) =
-        drop-cons (take n tickets) i blank within ∙ (ap (λ t. t ∷ drop (suc i) (take n tickets)) (getD-take n tickets i blank h) ∙ ap (λ k. getD tickets i blank ∷ drop k (take n tickets)) (sym (add-one i))) in
+        drop-cons (take n tickets) i blank within ∙ (ap (λ t. t ∷ drop (suc i) (take n tickets)) (getD-take n tickets i blank h)
+        ∙ ap (λ k. getD tickets i blank ∷ drop k (take n tickets)) (sym (add-one i))) in
         subst (λ l. Walked start room all (map bytesOf l) i ok w out) first q
 
     pub record-place : i < length out
     record-place = walked-place start room all (size fits q) next (omega arith)
 
-    pub record-more : {r : ℕ} {v new : List ℕ} → OneRun i ok r v out new (step product w (bytesOf (getD tickets i blank))) → RecordWalk start room tickets n (i + 1) r v new
+    pub record-more : {r : ℕ} {v new : List ℕ} → OneRun i ok r v out new (step product w (bytesOf (getD tickets i blank)))
+        → RecordWalk start room tickets n (i + 1) r v new
     record-more = walked-more start room all (size fits q) next

@@ -31,10 +31,12 @@ fn count_turns(answer: u8, n: usize) -> usize
     0
 }
 
-// Runs one ticket of a list, the k-th, on a table known to be consistent. The answer is how many are accepted, ok of those before it.
+// Runs one ticket of a list, the k-th, on a table known to be consistent. The answer is how many are
+// accepted, ok of those before it.
 fn run_ticket(table: &mut [Word], answers: &mut [u8], k: usize, ok: usize, t: Ticket) -> usize
     requires { ⌜ Table product (now table) × (k < length (now answers)) × (ok ≤ k) ⌝ }
-    ensures { λ r. ⌜ OneRun k ok r (now (table .exit)) (now (answers .entry)) (now (answers .exit)) (step product (now (table .entry)) (bytesOf t)) ⌝ }
+    ensures { λ r. ⌜ OneRun k ok r (now (table .exit)) (now (answers .entry)) (now (answers .exit))
+        (step product (now (table .entry)) (bytesOf t)) ⌝ }
 {
     let applied = apply_ticket(table, t);
     put_number(answers, k, ok, applied.answer)
@@ -50,8 +52,10 @@ fn ticket_at(tickets: &[Ticket], i: usize) -> Ticket
 
 // Runs the first n tickets in turn. The answer is how many are accepted.
 fn run_records(table: &mut [Word], tickets: &[Ticket], answers: &mut [u8], n: usize) -> usize
-    requires { ⌜ (n ≤ length (now tickets)) × (n ≤ length (now answers)) × (0 < n → Table product (now table)) ⌝ }
-    ensures { λ r. ⌜ AllRun r (now (table .exit)) (now (answers .entry)) (now (answers .exit)) (run product (now (table .entry)) (map bytesOf (take n (now (tickets .entry)))))
+    requires { ⌜ (n ≤ length (now tickets)) × (n ≤ length (now answers))
+        × (0 < n → Table product (now table)) ⌝ }
+    ensures { λ r. ⌜ AllRun r (now (table .exit)) (now (answers .entry)) (now (answers .exit))
+        (run product (now (table .entry)) (map bytesOf (take n (now (tickets .entry)))))
         × (r ≤ n) ⌝ }
 {
     let mut i = 0;
@@ -65,7 +69,8 @@ fn run_records(table: &mut [Word], tickets: &[Ticket], answers: &mut [u8], n: us
 
 // Runs a list of tickets in turn on one table, as `apply_list` does with their bytes.
 pub fn apply_records(table: &mut [Word], tickets: &[Ticket], answers: &mut [u8]) -> Listed
-    ensures { λ r. ⌜ ListAnswered r (now (table .exit)) (now (answers .exit)) (listing (now (table .entry)) (recordBytes (now (tickets .entry))) (now (answers .entry))) ⌝ }
+    ensures { λ r. ⌜ ListAnswered r (now (table .exit)) (now (answers .exit)) (listing (now (table .entry))
+        (recordBytes (now (tickets .entry))) (now (answers .entry))) ⌝ }
 {
     let answer = list_refusal(table, tickets.len(), answers.len());
     let n = count_turns(answer, tickets.len());

@@ -38,15 +38,16 @@ lines-fit bytes out n h room =
     one false = omega arith
 
 -- A turn with the first n bytes of a chunk, by what stands in the two buffers; with all of them, if n is their number.
-module _ {w : List ℕ} (bytes : List ℕ) {v out : List ℕ} (n : ℕ) {k : ℕ} (p : Printed w (cut recordLength (take n bytes)) k v out) where
-  pub shows-last : n < length bytes → Shows (Last n) w bytes v out
-  shows-last h = (k, h, record { lines = p .lines; words = p .words })
+module _ {w : List ℕ} (bytes : List ℕ) {v out : List ℕ} (n : ℕ) {k : ℕ} (p : Printed w (cut recordLength (take n bytes)) k v out)
+  where
+    pub shows-last : n < length bytes → Shows (Last n) w bytes v out
+    shows-last h = (k, h, record { lines = p .lines; words = p .words })
 
-  pub shows-more : n ≡ length bytes → Shows More w bytes v out
-  shows-more e =
-      let all : take n bytes ≡ bytes = take-all n bytes (omega (arith, e)) in
-      subst (λ l. (j : ℕ) × Runs w v (record { read = l; text = take j out })) all
-      (k, record { lines = p .lines; words = p .words })
+    pub shows-more : n ≡ length bytes → Shows More w bytes v out
+    shows-more e =
+        let all : take n bytes ≡ bytes = take-all n bytes (omega (arith, e)) in
+        subst (λ l. (j : ℕ) × Runs w v (record { read = l; text = take j out })) all
+        (k, record { lines = p .lines; words = p .words })
 
 pub fresh-table : Table product start
 unfolding consistent? bars unequal existsFor needs

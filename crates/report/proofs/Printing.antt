@@ -16,7 +16,8 @@ use Rattle.text.specs.Text.{Puts}
 use Rattle.report.specs.Text.{Line, Lines, Printed}
 
 line-same : {x y z u v w : ℕ} (text : List ℕ) → x ≡ u → y ≡ v → z ≡ w → Line x y z text → Line u v w text
-line-same {x} {y} {z} {u} {v} {w} text a b c l = subst (λ n. Line n v w text) a (subst (λ n. Line x n w text) b (subst (λ n. Line x y n text) c l))
+line-same {x} {y} {z} {u} {v} {w} text a b c l =
+    subst (λ n. Line n v w text) a (subst (λ n. Line x n w text) b (subst (λ n. Line x y n text) c l))
 
 -- The lines of tickets and then of others.
 pub lines-append : (l m : List (List ℕ)) (w text rest : List ℕ) → Lines w l text → Lines (run product w l .table) m rest
@@ -38,7 +39,8 @@ lines-more : (l : List (List ℕ)) (w t text line : List ℕ) → Lines w l text
     → Lines w (l ++ (t ∷ [])) (text ++ line)
 lines-more l w t text line q h = lines-append l (t ∷ []) w text line q (line, [], h, refl, sym (append-nil line))
 
--- Of the tickets `all` from the words `start`, some are run and `left` are not; their lines stand before place `at`, and the words are w.
+-- Of the tickets `all` from the words `start`, some are run and `left` are not; their lines stand before place `at`, and the
+-- words are w.
 pub record Printing (start : List ℕ) (all left : List (List ℕ)) (at : ℕ) (w out : List ℕ) : Type 0 where
   pub before : List (List ℕ)
   pub tickets : all ≡ before ++ left
@@ -61,18 +63,21 @@ module _ (start : List ℕ) (all : List (List ℕ)) where
     pub printing-table : Table product start → Table product w
     printing-table t = subst (Table product) (sym (q .words)) (run-table product product-sound (q .before) start t)
 
-  pub printing-more : {t : List ℕ} {left : List (List ℕ)} {at r : ℕ} {w v out new : List ℕ} {a : Applied} → Printing start all (t ∷ left) at w out → Answered a v (step product w t)
+  pub printing-more : {t : List ℕ} {left : List (List ℕ)} {at r : ℕ} {w v out new : List ℕ} {a : Applied}
+      → Printing start all (t ∷ left) at w out → Answered a v (step product w t)
       → (r ≤ at + 18) × Puts (Line (a .answer) (a .added) (a .removed)) at r out new → Printing start all left r v new
   printing-more {t} {left} {at} {r} {w} {v} {out} {new} {a} q h (short, p) =
       let s : Answer = step product (run product start (q .before) .table) t in
       let same : step product w t ≡ s = ap (λ u. step product u t) (q .words) in
       let line : Line (s .number) (s .added) (s .removed) (p .text) =
-      line-same (p .text) (h .number ∙ ap (λ e. e .number) same) (h .added ∙ ap (λ e. e .added) same) (h .removed ∙ ap (λ e. e .removed) same) (p .is) in
+      line-same (p .text) (h .number ∙ ap (λ e. e .number) same) (h .added ∙ ap (λ e. e .added) same) (h .removed
+      ∙ ap (λ e. e .removed) same) (p .is) in
       record {
         before = q .before ++ (t ∷ []);
         tickets = q .tickets ∙ sym (append-assoc (q .before) (t ∷ []) left);
         words = h .words ∙ (ap (λ e. e .table) same ∙ sym (more-words product (q .before) t start));
-        lines = subst (Lines start (q .before ++ (t ∷ []))) (sym (p .there)) (lines-more (q .before) start t (take at out) (p .text) (q .lines) line);
+        lines = subst (Lines start (q .before ++ (t ∷ []))) (sym (p .there)) (lines-more (q .before) start t (take at out)
+            (p .text) (q .lines) line);
         short = omega (arith, short, q .short, length-append (q .before) (t ∷ []));
       }
 
@@ -86,9 +91,11 @@ abbrev pub PrintingFrom : (start bytes : List ℕ) (i at : ℕ) (w out : List �
 PrintingFrom start bytes i at w out = Printing start (cut recordLength bytes) (cut recordLength (drop i bytes)) at w out
 
 module _ (start bytes : List ℕ) {i at : ℕ} {w out : List ℕ} (q : PrintingFrom start bytes i at w out) where
-  pub printing-end : length bytes ≤ i → 18 * length (cut recordLength bytes) ≤ length out → Printed start (cut recordLength bytes) at w out
+  pub printing-end : length bytes ≤ i → 18 * length (cut recordLength bytes) ≤ length out → Printed start (cut recordLength bytes)
+      at w out
   printing-end h room =
-      let last : Printing start (cut recordLength bytes) [] at w out = subst (λ l. Printing start (cut recordLength bytes) l at w out) (cut-end recordLength bytes h) q in
+      let last : Printing start (cut recordLength bytes) [] at w out =
+      subst (λ l. Printing start (cut recordLength bytes) l at w out) (cut-end recordLength bytes h) q in
       printing-done start (cut recordLength bytes) last (omega (arith, printing-room start (cut recordLength bytes) last room))
 
   -- The next ticket ends at e.
@@ -99,5 +106,6 @@ module _ (start bytes : List ℕ) {i at : ℕ} {w out : List ℕ} (q : PrintingF
     pub printing-line : 18 * length (cut recordLength bytes) ≤ length out → at + 18 ≤ length out
     printing-line room = omega (arith, printing-room start (cut recordLength bytes) next room)
 
-    pub printing-on : {r : ℕ} {v new : List ℕ} {a : Applied} → Answered a v (step product w (take (e - i) (drop i bytes))) → (r ≤ at + 18) × Puts (Line (a .answer) (a .added) (a .removed)) at r out new → PrintingFrom start bytes e r v new
+    pub printing-on : {r : ℕ} {v new : List ℕ} {a : Applied} → Answered a v (step product w (take (e - i) (drop i bytes)))
+        → (r ≤ at + 18) × Puts (Line (a .answer) (a .added) (a .removed)) at r out new → PrintingFrom start bytes e r v new
     printing-on = printing-more start (cut recordLength bytes) next

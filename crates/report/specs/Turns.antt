@@ -17,7 +17,8 @@ use Rattle.report.specs.declared.turns.Turned.the-variants.{More, Last, 
 abbrev pub start : List ℕ
 start = fresh product (product .most)
 
--- What program one prints for an input: the lines of its tickets, then the line of the count of facts that they leave.
+-- What program one prints for an input: the lines of its tickets, then the line of the count of facts that
+-- they leave.
 abbrev pub Output : List ℕ → List ℕ → Type 0
 Output input text =
     (lines count : List ℕ)
@@ -35,7 +36,8 @@ pub record Runs (w v : List ℕ) (t : Turn) : Type 0 where
   pub lines : Lines w (cut recordLength (t .read)) (t .text)
   pub words : v ≡ run product w (cut recordLength (t .read)) .table
 
--- Turns one after another, each on the words that the one before left, each with a full chunk of `size` bytes.
+-- Turns one after another, each on the words that the one before left, each with a full chunk of `size`
+-- bytes.
 abbrev pub FullTurns : ℕ → List ℕ → List Turn → List ℕ → Type 0
 FullTurns size w [] v = v ≡ w
 FullTurns size w (t ∷ l) v = (u : List ℕ) × (length (t .read) ≡ size) × Runs w u t × FullTurns size u l v
@@ -54,13 +56,15 @@ readBy full last = concatMap (λ t. t .read) full ++ last .read
 abbrev pub writtenBy : List Turn → Turn → List ℕ
 writtenBy full last = concatMap (λ t. t .text) full ++ last .text
 
--- What is lent to a turn: a consistent table, a chunk of whole tickets, and room for a line of 18 bytes for each.
+-- What is lent to a turn: a consistent table, a chunk of whole tickets, and room for a line of 18 bytes for
+-- each.
 pub record Lent (words bytes out : List ℕ) : Type 0 where
   pub table : Table product words
   pub whole : length bytes % recordLength ≡ 0
   pub room : 18 * (length bytes / recordLength + 1) ≤ length out
 
--- What a turn shows of itself in the chunk and in the text's buffer, by its answer. A turn that failed is the end.
+-- What a turn shows of itself in the chunk and in the text's buffer, by its answer. A turn that failed is the
+-- end.
 abbrev pub Shows : Turned → (w bytes v out : List ℕ) → Type 0
 Shows More w bytes v out = (k : ℕ) × Runs w v (record { read = bytes; text = take k out })
 Shows (Last n) w bytes v out =
@@ -72,14 +76,16 @@ abbrev pub Ran : Bool → ℕ → List ℕ → List ℕ → Type 0
 Ran true size w v = (full : List Turn) × (last : Turn) × AllTurns size w v full last
 Ran false size w v = Unit {0}
 
--- A whole run on a fresh table: its turns, and that they and the count's line write what is printed for the input.
+-- A whole run on a fresh table: its turns, and that they and the count's line write what is printed for the
+-- input.
 pub record Complete (size : ℕ) (v count : List ℕ) : Type 0 where
   pub full : List Turn
   pub last : Turn
   pub turns : AllTurns size start v full last
   pub output : Output (readBy full last) (writtenBy full last ++ count)
 
--- What is lent to the whole program, by the lengths: a table of the most words, and a chunk and room as above.
+-- What is lent to the whole program, by the lengths: a table of the most words, and a chunk and room as
+-- above.
 pub record Sized (words chunk out : ℕ) : Type 0 where
   pub most : words ≡ product .most
   pub whole : chunk % recordLength ≡ 0

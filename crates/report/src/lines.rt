@@ -24,17 +24,21 @@ fn put_short(out: &mut [u8], at: usize, n: u16, after: u8) -> usize
 // The line of a ticket's answer, from place `at` on. The answer is the place after it.
 fn put_line(out: &mut [u8], at: usize, applied: Applied) -> usize
     requires { ⌜ at + 18 ≤ length (now out) ⌝ }
-    ensures { λ r. ⌜ (r ≤ at + 18) × Puts (Line (applied .answer) (applied .added) (applied .removed)) at r (now (out .entry)) (now (out .exit)) ⌝ }
+    ensures { λ r. ⌜ (r ≤ at + 18) × Puts (Line (applied .answer) (applied .added) (applied .removed)) at r
+        (now (out .entry)) (now (out .exit)) ⌝ }
 {
     let number = put_short(out, at, applied.answer as u16, b' ');
     let added = put_short(out, number, applied.added, b' ');
     put_short(out, added, applied.removed, b'\n')
 }
 
-// Runs the tickets in turn on a table known to be consistent, and puts their lines at the start of out. The answer is their length.
+// Runs the tickets in turn on a table known to be consistent, and puts their lines at the start of out. The
+// answer is their length.
 pub fn put_lines(table: &mut [Word], bytes: &[u8], out: &mut [u8]) -> usize
-    requires { ⌜ Table product (now table) × (18 * length (cut recordLength (now bytes)) ≤ length (now out)) ⌝ }
-    ensures { λ r. ⌜ Printed (now (table .entry)) (cut recordLength (now (bytes .entry))) r (now (table .exit)) (now (out .exit)) ⌝ }
+    requires { ⌜ Table product (now table) × (18 * length (cut recordLength (now bytes)) ≤ length
+        (now out)) ⌝ }
+    ensures { λ r. ⌜ Printed (now (table .entry)) (cut recordLength (now (bytes .entry))) r
+        (now (table .exit)) (now (out .exit)) ⌝ }
 {
     let mut i = 0;
     let mut at = 0;
@@ -50,7 +54,8 @@ pub fn put_lines(table: &mut [Word], bytes: &[u8], out: &mut [u8]) -> usize
 // The line of a table's count of facts, at the start of out. The answer is its length.
 pub fn put_count(table: &[Word], out: &mut [u8]) -> usize
     requires { ⌜ Table product (now table) × (6 ≤ length (now out)) ⌝ }
-    ensures { λ r. ⌜ (r ≤ length (now (out .exit))) × Number (length (filled (now (table .entry)))) 10 (take r (now (out .exit))) ⌝ }
+    ensures { λ r. ⌜ (r ≤ length (now (out .exit))) × Number (length (filled (now (table .entry)))) 10
+        (take r (now (out .exit))) ⌝ }
 {
     let n = count_facts(table);
     put_short(out, 0, n as u16, b'\n')

@@ -4,11 +4,42 @@ use mathlib.Core.Path.{_≡_, sym, subst}
 use mathlib.Core.List.{List}
 use native.Mathlib.Omega.{arith}
 use lib.Dec.{lit≤}
-use Rattle.rdfs.specs.Rules.{Rule, Meets, r4, r5, r6, r7, r8, r9, r10, r11, r12, r13, r14, r15, r16, r17, r18, r19, r20, r21, r22, r23, r24, r25, r26, r27, h1, h2, h3, h4}
-use Rattle.runs.specs.Runs.{FactWords}
-use Rattle.runs.specs.Graphs.{Stands, graphOf, Each}
-use Rattle.runs.specs.Asked.{startKind, Asks}
-use Rattle.runs.proofs.Passed.{each-fact, fact-each, fact-each-two, fact-each-one}
+use Rattle.rdfs.specs.Rules.{
+  Rule,
+  Meets,
+  r4,
+  r5,
+  r6,
+  r7,
+  r8,
+  r9,
+  r10,
+  r11,
+  r12,
+  r13,
+  r14,
+  r15,
+  r16,
+  r17,
+  r18,
+  r19,
+  r20,
+  r21,
+  r22,
+  r23,
+  r24,
+  r25,
+  r26,
+  r27,
+  h1,
+  h2,
+  h3,
+  h4,
+}
+use Rattle.spans.specs.Spans.{FactWords}
+use Rattle.spans.specs.Graphs.{Stands, graphOf, Each}
+use Rattle.spans.specs.Asked.{startKind, Asks}
+use Rattle.spans.proofs.Passed.{each-fact, fact-each, fact-each-two, fact-each-one}
 
 -- What a rule asks of each word of its kind.
 abbrev AsksEach : List ℕ → Rule → Type 0
@@ -49,10 +80,12 @@ module _ (t : List ℕ) where
   each-meets h4 k E = λ x y z w p. from h4 E x y 0 p z w
 
   module _ (F : FactWords t) where
-    one : (r : Rule) → startKind r ≤ 4 → ((a : ℕ) → Stands t (startKind r) a 0 0 → Asks (graphOf t) r a 0 0) → Each t (startKind r) (λ a b c. Asks (graphOf t) r a 0 0)
+    one : (r : Rule) → startKind r ≤ 4 → ((a : ℕ) → Stands t (startKind r) a 0 0 → Asks (graphOf t) r a 0 0)
+        → Each t (startKind r) (λ a b c. Asks (graphOf t) r a 0 0)
     one r l f = fact-each-one F (startKind r) l (λ a. Asks (graphOf t) r a 0 0) f
 
-    two : (r : Rule) → startKind r ≤ 9 → ((a b : ℕ) → Stands t (startKind r) a b 0 → Asks (graphOf t) r a b 0) → Each t (startKind r) (λ a b c. Asks (graphOf t) r a b 0)
+    two : (r : Rule) → startKind r ≤ 9 → ((a b : ℕ) → Stands t (startKind r) a b 0 → Asks (graphOf t) r a b 0)
+        → Each t (startKind r) (λ a b c. Asks (graphOf t) r a b 0)
     two r l f = fact-each-two F (startKind r) l (λ a b. Asks (graphOf t) r a b 0) f
 
     three : (r : Rule) → ((a b c : ℕ) → Stands t (startKind r) a b c → Asks (graphOf t) r a b c) → AsksEach t r

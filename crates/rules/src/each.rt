@@ -1,21 +1,21 @@
 // A rule for every word of one kind: one pass, with the rule's own test by ids for each word.
 use crate::Rule;
-use runs::has_both;
-use runs::has_domain_and_range;
-use runs::has_least;
-use runs::has_like_ranges;
-use runs::has_linked_domains;
-use runs::has_linked_ranges;
-use runs::has_range_roles;
-use runs::has_value_roles;
-use runs::is_literal_only;
-use runs::is_object_literal;
-use runs::is_object_member;
-use runs::is_only;
-use runs::is_under_resource;
-use runs::lacks_in_run;
-use runs::lacks_least;
-use runs::place_of;
+use spans::has_both;
+use spans::has_domain_and_range;
+use spans::has_least;
+use spans::has_like_ranges;
+use spans::has_linked_domains;
+use spans::has_linked_ranges;
+use spans::has_range_roles;
+use spans::has_value_roles;
+use spans::is_literal_only;
+use spans::is_object_literal;
+use spans::is_object_member;
+use spans::is_only;
+use spans::is_under_resource;
+use spans::lacks_in_span;
+use spans::lacks_least;
+use spans::place_of;
 use table::CLASS;
 use table::DOMAIN;
 use table::INDIVIDUAL;
@@ -33,13 +33,14 @@ ghost use mathlib.Core.Path.{_≡_};
 ghost use Prim.Native.Nat.{_≤_, _<_};
 ghost use Rattle.rdfs.specs.Rules.{Meets};
 ghost use Rattle.table.specs.Answers.{Decides};
-ghost use Rattle.runs.specs.Runs.{Indexed};
-ghost use Rattle.runs.specs.Graphs.{Id, graphOf};
-ghost use Rattle.runs.specs.Asked.{startKind, Asks};
-ghost use Rattle.runs.specs.Earlier.{Earlier};
+ghost use Rattle.spans.specs.Spans.{Indexed};
+ghost use Rattle.spans.specs.Graphs.{Id, graphOf};
+ghost use Rattle.spans.specs.Asked.{startKind, Asks};
+ghost use Rattle.spans.specs.Earlier.{Earlier};
 ghost use Rattle.rules.specs.RuleOf.{ruleOf};
 
-// Whether the ids of one word are as a rule asks. Rules 18, 20, 24, 26, 27 and H1 ask nothing of single words.
+// Whether the ids of one word are as a rule asks. Rules 18, 20, 24, 26, 27 and H1 ask nothing of single
+// words.
 fn ids_meet<'a>(t: &'a [Word], s: &'a [u16], rule: Rule, a: Word, b: Word, c: Word) -> bool
     requires { ⌜ Indexed (now t) (now s) × (Id a × Id b × Id c) × Earlier (graphOf (now t)) (ruleOf rule) ⌝ }
     ensures { λ r. ⌜ Decides r (Asks (graphOf (now (t .entry))) (ruleOf rule) a b c) ⌝ }
@@ -60,9 +61,9 @@ fn ids_meet<'a>(t: &'a [Word], s: &'a [u16], rule: Rule, a: Word, b: Word, c: Wo
         Rule::R16 => is_only(t, s, DOMAIN, a, b),
         Rule::R17 => is_only(t, s, RANGE, a, b),
         Rule::R18 => true,
-        Rule::R19 => lacks_in_run(t, s, SUBCLASS, b, a),
+        Rule::R19 => lacks_in_span(t, s, SUBCLASS, b, a),
         Rule::R20 => true,
-        Rule::R21 => lacks_in_run(t, s, SUBPROPERTY, b, a),
+        Rule::R21 => lacks_in_span(t, s, SUBPROPERTY, b, a),
         Rule::R22 => has_linked_domains(t, s, a, b),
         Rule::R23 => has_linked_ranges(t, s, a, b),
         Rule::R24 => true,
@@ -78,7 +79,8 @@ fn ids_meet<'a>(t: &'a [Word], s: &'a [u16], rule: Rule, a: Word, b: Word, c: Wo
 
 // Whether a rule is met that goes through the facts of kind k.
 pub fn all_meet<'a>(t: &'a [Word], s: &'a [u16], rule: Rule, k: Word) -> bool
-    requires { ⌜ Indexed (now t) (now s) × (1 ≤ k) × (k < 11) × (startKind (ruleOf rule) ≡ k) × Earlier (graphOf (now t)) (ruleOf rule) ⌝ }
+    requires { ⌜ Indexed (now t) (now s) × (1 ≤ k) × (k < 11) × (startKind (ruleOf rule) ≡ k)
+        × Earlier (graphOf (now t)) (ruleOf rule) ⌝ }
     ensures { λ r. ⌜ Decides r (Meets (graphOf (now (t .entry))) (ruleOf rule)) ⌝ }
 {
     let mut i = place_of(t, word_of(k, 0, 0, 0));

@@ -1,12 +1,12 @@
-// The rules one by one, each with its own pass over the words of a table with the index of their runs.
+// The rules one by one, each with its own pass over the words of a table with the index of their spans.
 //
 // `meets` serves the check of a table. What the rules before one show is required where its test relies on
 // it. Nothing is written. The crate assumes nothing.
 use each::all_meet;
-use runs::all_carried;
-use runs::all_inherited;
-use runs::all_subjects;
-use runs::has_least;
+use spans::all_carried;
+use spans::all_inherited;
+use spans::all_subjects;
+use spans::has_least;
 use table::CLASS;
 use table::DOMAIN;
 use table::INDIVIDUAL;
@@ -21,9 +21,9 @@ use table::VALUE;
 use table::Word;
 ghost use Rattle.rdfs.specs.Rules.{Meets};
 ghost use Rattle.table.specs.Answers.{Decides};
-ghost use Rattle.runs.specs.Runs.{Indexed};
-ghost use Rattle.runs.specs.Graphs.{graphOf};
-ghost use Rattle.runs.specs.Earlier.{Earlier};
+ghost use Rattle.spans.specs.Spans.{Indexed};
+ghost use Rattle.spans.specs.Graphs.{graphOf};
+ghost use Rattle.spans.specs.Earlier.{Earlier};
 ghost use Rattle.rules.specs.RuleOf.{ruleOf};
 
 mod each;

@@ -33,25 +33,33 @@ module _ (R : RattleType) (n : ℕ) (ys : List (R .Denot)) (b o : ℕ) where
   Own = Array R n .own ys
 
   module _ {M : Type 1} (𝓤 : URA M) (H : Heap 𝓤) (A : Atoms 𝓤) (W : Given 𝓤 H A) where
-    in-memory : (v : Val) → ent 𝓤 (sep 𝓤 (sem 𝓤 H A (fat fullShare τ b o v)) (sem 𝓤 H A (Own (v ∷ [])))) (sem 𝓤 H A (partAt (Array R n) fullShare ys b o))
+    in-memory : (v : Val) → ent 𝓤 (sep 𝓤 (sem 𝓤 H A (fat fullShare τ b o v)) (sem 𝓤 H A (Own (v ∷ []))))
+        (sem 𝓤 H A (partAt (Array R n) fullShare ys b o))
     unfolding partOf
     in-memory v =
-        qed W (‵ (fat fullShare τ b o v) ∷ ‵ (Own (v ∷ [])) ∷ []) ∵ use1 W (‵ (cellAt fullShare (τ ∷ []) (v ∷ []) b o)) (W .laws .at-raw fullShare τ b o v) $ fjoin ! $
+        qed W (‵ (fat fullShare τ b o v) ∷ ‵ (Own (v ∷ [])) ∷ []) ∵ use1 W (‵ (cellAt fullShare (τ ∷ []) (v ∷ []) b o))
+        (W .laws .at-raw fullShare τ b o v) $ fjoin ! $
         fpack ! (List Val) (λ vs. fsep (cellAt fullShare (τ ∷ []) vs b o) (Own vs)) (v ∷ []) $ done !
 
-    pub elements-in : Single (R .mir) → length ys ≡ n → (v : Val) → ent 𝓤 (sep 𝓤 (sem 𝓤 H A (fat fullShare τ b o v)) (sem 𝓤 H A (Own (v ∷ [])))) (sem 𝓤 H A (Elements R ys b o (length ys)))
+    pub elements-in : Single (R .mir) → length ys ≡ n → (v : Val)
+        → ent 𝓤 (sep 𝓤 (sem 𝓤 H A (fat fullShare τ b o v)) (sem 𝓤 H A (Own (v ∷ [])))) (sem 𝓤 H A (Elements R ys b o (length ys)))
     elements-in one e v =
-        qed W (‵ (fat fullShare τ b o v) ∷ ‵ (Own (v ∷ [])) ∷ []) ∵ use2 W (‵ (partAt (Array R n) fullShare ys b o)) (in-memory v) $
-        use1 W (‵ (Elements R ys b o n)) (array-apart 𝓤 H A W R fullShare one n ys b o) $ rewrite ! 0 (λ (m : ℕ). ‵ (Elements R ys b o m)) (sym e) refl $ done !
+        qed W (‵ (fat fullShare τ b o v) ∷ ‵ (Own (v ∷ [])) ∷ []) ∵ use2 W (‵ (partAt (Array R n) fullShare ys b o)) (in-memory v)
+        $
+        use1 W (‵ (Elements R ys b o n)) (array-apart 𝓤 H A W R fullShare one n ys b o) $ rewrite ! 0
+        (λ (m : ℕ). ‵ (Elements R ys b o m)) (sym e) refl $ done !
 
     of-memory : ent 𝓤 (sem 𝓤 H A (partAt (Array R n) fullShare ys b o)) (ex 𝓤 (λ (v : Val). sem 𝓤 H A (fat fullShare τ b o v)))
     unfolding partOf
     of-memory =
-        qed W (‵ (partAt (Array R n) fullShare ys b o) ∷ []) ∵ fpick ! (λ vs. fsplit ! $ move ! (1 ∷ []) $ fpick ! (λ us. fsplit ! $ fsplit ! $ feqL ! (λ e. feqL ! (λ l. drop ! $
-        rewrite ! 0 (λ (ws : List Val). ‵ (cellAt fullShare (τ ∷ []) ws b o)) e refl $ show ! (λ (v : Val). sem 𝓤 H A (fat fullShare τ b o v)) _ $
+        qed W (‵ (partAt (Array R n) fullShare ys b o) ∷ []) ∵ fpick ! (λ vs. fsplit ! $ move ! (1 ∷ []) $ fpick !
+        (λ us. fsplit ! $ fsplit ! $ feqL ! (λ e. feqL ! (λ l. drop ! $
+        rewrite ! 0 (λ (ws : List Val). ‵ (cellAt fullShare (τ ∷ []) ws b o)) e refl $ show !
+        (λ (v : Val). sem 𝓤 H A (fat fullShare τ b o v)) _ $
         use1 W (‵ (fat fullShare τ b o _)) (W .laws .raw-at fullShare τ b o _) $ done !))))
 
-    pub elements-out : length ys ≡ n → ent 𝓤 (sem 𝓤 H A (Elements R ys b o (length ys))) (ex 𝓤 (λ (v : Val). sem 𝓤 H A (fat fullShare τ b o v)))
+    pub elements-out : length ys ≡ n → ent 𝓤 (sem 𝓤 H A (Elements R ys b o (length ys)))
+        (ex 𝓤 (λ (v : Val). sem 𝓤 H A (fat fullShare τ b o v)))
     elements-out e =
         qed W (‵ (Elements R ys b o (length ys)) ∷ []) ∵ rewrite ! 0 (λ (m : ℕ). ‵ (Elements R ys b o m)) e refl $
         use1 W (‵ (partAt (Array R n) fullShare ys b o)) (array-whole 𝓤 H A W R fullShare n ys b o) $ by ! of-memory

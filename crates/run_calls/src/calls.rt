@@ -1,7 +1,6 @@
 // The calls, and what is printed of each.
 use crate::command::UNTOUCHED;
 use crate::rule::print_rule;
-use consistency::INCONSISTENT;
 use consistency::Visited;
 use consistency::check;
 use consistency::first_broken;
@@ -16,6 +15,7 @@ use script::print_number;
 use script::print_test;
 use script::word_at;
 use singles::apply_each;
+use table::INCONSISTENT;
 use table::Word;
 use table_calls::lookup;
 use ticket::apply;

@@ -1,8 +1,9 @@
-// The standard streams of programs one and two: input read into a lent buffer, text written, and what is said on standard error
-// where one of them fails.
+// The standard streams of programs one and two: input read into a lent buffer, text written, and what is said
+// on standard error where one of them fails.
 //
-// No function has a `requires`. The crate assumes the kit's contracts of `libc::read` and `libc::write`, which say
-// how many bytes a call moves; which bytes they are, and from or to which stream, no contract can say.
+// No function has a `requires`. The crate assumes the kit's contracts of `libc::read` and `libc::write`,
+// which say how many bytes a call moves; which bytes they are, and from or to which stream, no contract can
+// say.
 ghost use Rattle.streams.specs.Input.{Within};
 ghost use lib.ListN.{length};
 use libc::STDERR_FILENO;
@@ -17,8 +18,8 @@ pub enum Filled {
     Failed,
 }
 
-// Reads until the buffer is full, the input ends or a read fails. A read that a signal interrupts, or that finds
-// nothing yet on a descriptor that does not wait, has failed: it is not the end of the input.
+// Reads until the buffer is full, the input ends or a read fails. A read that a signal interrupts, or that
+// finds nothing yet on a descriptor that does not wait, has failed: it is not the end of the input.
 fn fill(fd: i32, buffer: &mut [u8]) -> Filled
     ensures { λ r. ⌜ Within r (length (now (buffer .exit))) ⌝ }
 {
@@ -37,7 +38,8 @@ fn fill(fd: i32, buffer: &mut [u8]) -> Filled
     Filled::Read(done)
 }
 
-// Reads standard input into a buffer. If a read fails, a line on standard error says so, after the program's name.
+// Reads standard input into a buffer. If a read fails, a line on standard error says so, after the program's
+// name.
 pub fn read_input(program: &[u8], buffer: &mut [u8]) -> Filled
     ensures { λ r. ⌜ Within r (length (now (buffer .exit))) ⌝ }
 {
@@ -49,8 +51,8 @@ pub fn read_input(program: &[u8], buffer: &mut [u8]) -> Filled
     filled
 }
 
-// Writes all of a text to standard output. If a write fails the answer is false, part of the text may have been
-// written, and a line on standard error says so, after the program's name.
+// Writes all of a text to standard output. If a write fails the answer is false, part of the text may have
+// been written, and a line on standard error says so, after the program's name.
 pub fn write_output(program: &[u8], text: &[u8]) -> bool {
     if io::write_all(STDOUT_FILENO, text) {
         return true;

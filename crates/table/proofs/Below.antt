@@ -104,8 +104,10 @@ module _ (t : List ℕ) (n w : ℕ) (h : n ≤ length t) (a : Ascending (take n 
 
   pub first-missing : (i : ℕ) → i ≡ below (take n t) w → (i < n → getD t i 0 ≡ w → ⊥) → Missing i ≡ found (take n t) w
   first-missing i b f =
-      let not-at : Stands (take n t) w i → ⊥ = λ s. let l : i < n = omega (arith, s .0, firsts) in f l (sym (getD-take n t i 0 l) ∙ s .1) in
-      let gone : member (take n t) w ≡ false = missing-member w (take n t) a (λ s. not-at (subst (Stands (take n t) w) (sym b) s)) in
+      let not-at : Stands (take n t) w i → ⊥ = λ s. let l : i < n = omega (arith, s .0, firsts) in
+      f l (sym (getD-take n t i 0 l) ∙ s .1) in
+      let gone : member (take n t) w ≡ false =
+      missing-member w (take n t) a (λ s. not-at (subst (Stands (take n t) w) (sym b) s)) in
       sym (ap (λ m. foundAs m (below (take n t) w)) gone ∙ ap Missing (sym b))
 
 -- What the answers of a search say.

@@ -25,7 +25,8 @@ module _ {from to : List ℕ} {i : ℕ} (q : Copying from to i) where
         same = q .same ∙ sym (length-set to i (getD from i 0));
         within = omega arith;
         first = ap (λ k. take k (set to i (getD from i 0))) next
-            ∙ (take-suc-set to i (getD from i 0) there ∙ (ap (λ l. l ++ (getD from i 0 ∷ [])) (q .first) ∙ (sym (take-suc from i 0 h) ∙ ap (λ k. take k from) (sym next))));
+            ∙ (take-suc-set to i (getD from i 0) there ∙ (ap (λ l. l ++ (getD from i 0 ∷ [])) (q .first)
+            ∙ (sym (take-suc from i 0 h) ∙ ap (λ k. take k from) (sym next))));
       }
 
   pub copying-done : length from ≤ i → to ≡ from

@@ -38,7 +38,8 @@ module _ (N : Numbers) (t : List ℕ) (h : T (laidOut N 1 t)) where
 
   pub filled-some : (k : ℕ) → k < length (filled t) → getD t k 0 ≡ 0 → ⊥
   filled-some k l e =
-      let same : getD t k 0 ≡ getD (filled t) k 0 = ap (λ m. getD m k 0) shape ∙ List·getD-append (filled t) (replicate (length t - length (filled t)) 0) 0 k l in
+      let same : getD t k 0 ≡ getD (filled t) k 0 =
+      ap (λ m. getD m k 0) shape ∙ List·getD-append (filled t) (replicate (length t - length (filled t)) 0) 0 k l in
       differ (in-filter (λ x. not (eqb x 0)) t (at-in (filled t) k l) .1) (sym same ∙ e)
 
   pub filled-none : (k : ℕ) → length (filled t) ≤ k → getD t k 0 ≡ 0
@@ -46,7 +47,8 @@ module _ (N : Numbers) (t : List ℕ) (h : T (laidOut N 1 t)) where
       let rest : List ℕ = replicate (length t - length (filled t)) 0 in
       let place : length (filled t) + (k - length (filled t)) ≡ k = omega arith in
       ap (λ m. getD m k 0) shape
-      ∙ (ap (λ j. getD (filled t ++ rest) j 0) (sym place) ∙ (getD-append-add (filled t) rest (k - length (filled t)) 0 ∙ zeros-at (length t - length (filled t)) (k - length (filled t))))
+      ∙ (ap (λ j. getD (filled t ++ rest) j 0) (sym place) ∙ (getD-append-add (filled t) rest (k - length (filled t)) 0
+      ∙ zeros-at (length t - length (filled t)) (k - length (filled t))))
 
   pub filled-end : (k : ℕ) → getD t k 0 ≡ 0 → length (filled t) ≤ k
   filled-end k e = elim (decLt k (length (filled t))) [ yes l ↦ absurd (filled-some k l e) | no n ↦ omega (arith, n) ]
@@ -56,7 +58,8 @@ module _ (N : Numbers) (t : List ℕ) (h : T (laidOut N 1 t)) where
 
   -- A test of the search for the first zero.
   pub filled-turns : (k r : ℕ) → r ≡ cond (ltb 0 (getD t k 0)) 1 0 → Turns (length (filled t)) k r
-  filled-turns k r e = turns (length (filled t)) k 0 (getD t k 0) r (λ l. filled-more k (omega arith)) (λ l. filled-end k (omega arith)) e
+  filled-turns k r e =
+      turns (length (filled t)) k 0 (getD t k 0) r (λ l. filled-more k (omega arith)) (λ l. filled-end k (omega arith)) e
 
   -- The first words, as many as there are facts, are the facts, and they ascend.
   module _ (n : ℕ) (e : n ≡ length (filled t)) where

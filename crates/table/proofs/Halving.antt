@@ -33,7 +33,8 @@ module _ {n number lo size : ℕ} (B : Between n number lo size) where
   moved-within half r (inl t) = omega (arith, ap (λ i. half * i) (t .0) ∙ mul-one half)
   moved-within half r (inr t) = omega (arith, ap (λ i. half * i) (t .0) ∙ mul-zero half)
 
-  pub between-half : (half r : ℕ) → half ≡ size / 2 → 1 < size → Turns number (lo + half) r → Between n number (lo + half * r) (size - half)
+  pub between-half : (half r : ℕ) → half ≡ size / 2 → 1 < size → Turns number (lo + half) r
+      → Between n number (lo + half * r) (size - half)
   between-half half r e h (inl t) =
       let all : half * r ≡ half = ap (λ i. half * i) (t .0) ∙ mul-one half in
       record { some = omega arith; within = omega arith; low = omega (arith, t .1); high = omega arith }

@@ -20,11 +20,15 @@ use Rattle.table.proofs.FactParts.{made-same}
 
 module _ (t : List ℕ) (n : ℕ) (q : Counted t n) where
   -- A fact is in the table if its word is among them.
-  pub has-word-of : (k a b c : ℕ) → Shaped k b c → Id a → Id b → Id c → member (take n t) (wordOf k a b c) ≡ has (factsOf t) (made k a b c)
+  pub has-word-of : (k a b c : ℕ) → Shaped k b c → Id a → Id b → Id c → member (take n t) (wordOf k a b c) ≡ has (factsOf t)
+      (made k a b c)
   has-word-of k a b c s ha hb hc =
       let w : ℕ = wordOf k a b c in
       let parts : (kindOf w ≡ k) × (firstOf w ≡ a) × (secondOf w ≡ b) × (thirdOf w ≡ c) = omega arith in
       let again : fact (product .base) w ≡ made k a b c = made-same (parts .0) (parts .1) (parts .2) (parts .3) in
-      let there : w ∈ filled t → made k a b c ∈ factsOf t = λ h. subst (λ g. g ∈ factsOf t) again (map-in (fact (product .base)) h) in
-      let back : made k a b c ∈ factsOf t → w ∈ filled t = λ h. subst (λ x. x ∈ filled t) (word-made k a b c s) (laid-word-in product t (q .laid) (made k a b c) h) in
-      ap (λ l. member l w) (counted-first q) ∙ tests-agree (tests-as (tests-member (filled t) w) there back) (tests-has (factsOf t) (made k a b c))
+      let there : w ∈ filled t → made k a b c ∈ factsOf t = λ h. subst (λ g. g ∈ factsOf t) again (map-in
+      (fact (product .base)) h) in
+      let back : made k a b c ∈ factsOf t → w ∈ filled t = λ h. subst (λ x. x ∈ filled t) (word-made k a b c s) (laid-word-in
+      product t (q .laid) (made k a b c) h) in
+      ap (λ l. member l w) (counted-first q) ∙ tests-agree (tests-as (tests-member (filled t) w) there back)
+      (tests-has (factsOf t) (made k a b c))

@@ -5,7 +5,21 @@ use mathlib.Core.List.{List, [], _∷_, _++_, append-assoc, append-nil}
 use native.Mathlib.Omega.{arith}
 use native.Mathlib.Numerals.{add-one}
 use native.Mathlib.Nat.{sub-self}
-use lib.ListN.{length, getD, take, drop, set, replicate, length-append, length-replicate, length-set, take-append-drop, drop-of-length-le, replicate-append-replicate, List·getD-append}
+use lib.ListN.{
+  length,
+  getD,
+  take,
+  drop,
+  set,
+  replicate,
+  length-append,
+  length-replicate,
+  length-set,
+  take-append-drop,
+  drop-of-length-le,
+  replicate-append-replicate,
+  List·getD-append,
+}
 use lib.Seq.{take-suc, drop-cons, set-at, length-take-le, getD-take}
 use Rattle.table.specs.Room.{putAt, clearedFrom}
 
@@ -31,16 +45,19 @@ module _ (t : List ℕ) (n k : ℕ) (h : k < length t) where
   unfolding later
   moved-set w = ap (λ l. set l k w) parted ∙ set-at (take k t) (getD t k 0) later w k (length-take-le k t (omega arith))
 
-moved-next : (t : List ℕ) (n j : ℕ) → j < n → n < length t → set (movedFrom t n (suc j)) (suc j) (getD (movedFrom t n (suc j)) j 0) ≡ movedFrom t n j
+moved-next : (t : List ℕ) (n j : ℕ) → j < n → n < length t → set (movedFrom t n (suc j)) (suc j) (getD (movedFrom t n (suc j)) j
+    0) ≡ movedFrom t n j
 moved-next t n j h l =
     let rest : List ℕ = take (n - suc j) (drop (suc j) t) in
     let front : getD (movedFrom t n (suc j)) j 0 ≡ getD t j 0 =
-    List·getD-append (take (suc (suc j)) t) _ 0 j (omega (arith, length-take-le (suc (suc j)) t (omega arith))) ∙ getD-take (suc (suc j)) t j 0 (omega arith) in
+    List·getD-append (take (suc (suc j)) t) _ 0 j (omega (arith, length-take-le (suc (suc j)) t (omega arith)))
+    ∙ getD-take (suc (suc j)) t j 0 (omega arith) in
     let one : n - j ≡ suc (n - suc j) = omega arith in
     let part : take (n - j) (drop j t) ≡ getD t j 0 ∷ rest =
     ap (take (n - j)) (drop-cons t j 0 (omega arith)) ∙ ap (λ m. take m (getD t j 0 ∷ drop (suc j) t)) one in
     moved-set t n (suc j) (omega arith) _
-    ∙ (ap (λ v. take (suc j) t ++ (v ∷ (rest ++ drop (suc n) t))) front ∙ ap (λ m. take (suc j) t ++ (m ++ drop (suc n) t)) (sym part))
+    ∙ (ap (λ v. take (suc j) t ++ (v ∷ (rest ++ drop (suc n) t))) front ∙ ap (λ m. take (suc j) t ++ (m ++ drop (suc n) t))
+    (sym part))
 
 -- The table at a turn that moves the words of t from place i up to place n.
 pub record Moving (t : List ℕ) (n i : ℕ) (u : List ℕ) (k : ℕ) : Type 0 where
@@ -61,7 +78,8 @@ module _ {t u : List ℕ} {n i k : ℕ} (m : Moving t n i u k) (l : n < length t
         high = omega (arith, m .high);
         now =
             ap (λ v. set v k (getD v (k - 1) 0)) (m .now)
-            ∙ (ap (λ p. set (movedFrom t n p) p (getD (movedFrom t n p) (k - 1) 0)) (sym whole) ∙ moved-next t n (k - 1) (omega (arith, m .high)) l);
+            ∙ (ap (λ p. set (movedFrom t n p) p (getD (movedFrom t n p) (k - 1) 0)) (sym whole)
+            ∙ moved-next t n (k - 1) (omega (arith, m .high)) l);
         same = length-set u k (getD u (k - 1) 0) ∙ m .same;
       }
 
@@ -90,19 +108,28 @@ module _ {t u : List ℕ} {k i : ℕ} (m : Clearing t k u i) where
   clearing-more h =
       let front : List ℕ = take k t ++ replicate (i - k) 0 in
       let rest : List ℕ = drop (suc i) t in
-      let place : length front ≡ i = omega (arith, length-append (take k t) (replicate (i - k) 0), length-take-le k t (omega (arith, m .low, m .high)), length-replicate {A = ℕ} (i - k) 0, m .low) in
+      let place : length front ≡ i = omega (
+        arith,
+        length-append (take k t) (replicate (i - k) 0),
+        length-take-le k t (omega (arith, m .low, m .high)),
+        length-replicate {A = ℕ} (i - k) 0,
+        m .low,
+      ) in
       let whole : u ≡ front ++ (getD t i 0 ∷ rest) =
-      m .now ∙ (sym (append-assoc (take k t) (replicate (i - k) 0) (drop i t)) ∙ ap (λ l. front ++ l) (drop-cons t i 0 (omega (arith, m .same)))) in
+      m .now ∙ (sym (append-assoc (take k t) (replicate (i - k) 0) (drop i t))
+      ∙ ap (λ l. front ++ l) (drop-cons t i 0 (omega (arith, m .same)))) in
       let one : (i - k) + 1 ≡ (i + 1) - k = omega (arith, m .low) in
       let longer : replicate (i - k) 0 ++ (0 ∷ rest) ≡ replicate ((i + 1) - k) 0 ++ rest =
-      sym (append-assoc (replicate (i - k) 0) (0 ∷ []) rest) ∙ ap (λ l. l ++ rest) (replicate-append-replicate (i - k) 1 0 ∙ ap (λ n. replicate n 0) one) in
+      sym (append-assoc (replicate (i - k) 0) (0 ∷ []) rest) ∙ ap (λ l. l ++ rest) (replicate-append-replicate (i - k) 1 0
+      ∙ ap (λ n. replicate n 0) one) in
       record {
         low = omega (arith, m .low);
         high = omega (arith, m .same);
         now =
             ap (λ v. set v i 0) whole
             ∙ (set-at front (getD t i 0) rest 0 i place
-            ∙ (append-assoc (take k t) (replicate (i - k) 0) (0 ∷ rest) ∙ (ap (λ l. take k t ++ l) longer ∙ ap (λ n. take k t ++ (replicate ((i + 1) - k) 0 ++ drop n t)) (sym (add-one i)))));
+            ∙ (append-assoc (take k t) (replicate (i - k) 0) (0 ∷ rest) ∙ (ap (λ l. take k t ++ l) longer
+            ∙ ap (λ n. take k t ++ (replicate ((i + 1) - k) 0 ++ drop n t)) (sym (add-one i)))));
         same = length-set u i 0 ∙ m .same;
       }
 

@@ -30,7 +30,13 @@ parts-shaped (psub a b) = two-ids 6 b (lit≤ tt) (lit≤ tt)
 parts-shaped (dom a b) = two-ids 7 b (lit≤ tt) (lit≤ tt)
 parts-shaped (rng a b) = two-ids 8 b (lit≤ tt) (lit≤ tt)
 parts-shaped (ci a b) = two-ids 9 b (lit≤ tt) (lit≤ tt)
-parts-shaped (pi a b c) = record { some = omega arith; most = omega arith; second = λ h. absurd (omega arith); third = λ h. absurd (omega arith) }
+parts-shaped (pi a b c) = record {
+  some = omega arith;
+  most = omega arith;
+  second = λ h. absurd (omega arith);
+  third =
+      λ h. absurd (omega arith);
+}
 
 -- Shaped parts are those of the fact made of them.
 record Parts (k a b c : ℕ) (f : Fact) : Type 0 where
@@ -40,10 +46,22 @@ record Parts (k a b c : ℕ) (f : Fact) : Type 0 where
   third-is : third f ≡ c
 
 of-one : {k a b c : ℕ} {f : Fact} → Shaped k b c → k ≤ 4 → Parts k a 0 0 f → Parts k a b c f
-of-one s h p = record { kind-is = p .kind-is; first-is = p .first-is; second-is = p .second-is ∙ sym (s .second h); third-is = p .third-is ∙ sym (s .third (omega arith)) }
+of-one s h p = record {
+  kind-is = p .kind-is;
+  first-is = p .first-is;
+  second-is = p .second-is ∙ sym (s .second h);
+  third-is =
+      p .third-is ∙ sym (s .third (omega arith));
+}
 
 of-two : {k a b c : ℕ} {f : Fact} → Shaped k b c → k ≤ 9 → Parts k a b 0 f → Parts k a b c f
-of-two s h p = record { kind-is = p .kind-is; first-is = p .first-is; second-is = p .second-is; third-is = p .third-is ∙ sym (s .third h) }
+of-two s h p = record {
+  kind-is = p .kind-is;
+  first-is = p .first-is;
+  second-is = p .second-is;
+  third-is = p .third-is
+      ∙ sym (s .third h);
+}
 
 own-parts : (f : Fact) → Parts (kind f) (first f) (second f) (third f) f
 own-parts f = record { kind-is = refl; first-is = refl; second-is = refl; third-is = refl }
@@ -66,8 +84,22 @@ made-parts (suc (suc (suc (suc (suc (suc (suc (suc (suc (suc (suc k))))))))))) a
 tests-ids : (top : ℕ) (f : Fact) → Tests (allowed top f) (Allowed top (kind f) (first f) (second f) (third f))
 tests-ids top f =
     tests-as (tests-allowed top f)
-    (λ h. record { first = h .one; second = h .two; third = h .three; not-first = h .one-mark; not-third = h .three-mark; not-second = h .two-mark })
-    (λ h. record { one = h .first; two = h .second; three = h .third; one-mark = h .not-first; two-mark = h .not-second; three-mark = h .not-third })
+    (λ h. record {
+      first = h .one;
+      second = h .two;
+      third = h .three;
+      not-first = h .one-mark;
+      not-third = h .three-mark;
+      not-second = h .two-mark;
+    })
+    (λ h. record {
+      one = h .first;
+      two = h .second;
+      three = h .third;
+      one-mark = h .not-first;
+      two-mark = h .not-second;
+      three-mark = h .not-third;
+    })
 
 -- The ids of what is made of digits are digits.
 pick : (P : Fact → Type 0) (t : Bool) {f g : Fact} → P f → P g → P (cond t f g)
@@ -76,7 +108,8 @@ pick P false p q = q
 
 made-below : (B k a b c : ℕ) → a < B → b < B → c < B → Below B (made k a b c)
 made-below B k a b c p q r =
-    choose 1 (of p z z) (choose 2 (of p z z) (choose 3 (of p z z) (choose 4 (of p z z) (choose 5 (of p q z) (choose 6 (of p q z) (choose 7 (of p q z)
+    choose 1 (of p z z) (choose 2 (of p z z)
+    (choose 3 (of p z z) (choose 4 (of p z z) (choose 5 (of p q z) (choose 6 (of p q z) (choose 7 (of p q z)
     (choose 8 (of p q z) (choose 9 (of p q z) (of p q r)))))))))
   where
     z : 0 < B
@@ -91,15 +124,18 @@ made-below B k a b c p q r =
 -- A statement carried between a fact's parts and equal ones.
 module _ (Q : ℕ → ℕ → ℕ → ℕ → Type 0) {k a b c : ℕ} {f : Fact} (p : Parts k a b c f) where
   parts-to : Q (kind f) (first f) (second f) (third f) → Q k a b c
-  parts-to h = subst (λ n. Q n a b c) (p .kind-is) (subst (λ n. Q (kind f) n b c) (p .first-is) (subst (λ n. Q (kind f) (first f) n c) (p .second-is) (subst (Q (kind f) (first f) (second f)) (p .third-is) h)))
+  parts-to h = subst (λ n. Q n a b c) (p .kind-is) (subst (λ n. Q (kind f) n b c) (p .first-is)
+      (subst (λ n. Q (kind f) (first f) n c) (p .second-is) (subst (Q (kind f) (first f) (second f)) (p .third-is) h)))
 
   parts-from : Q k a b c → Q (kind f) (first f) (second f) (third f)
-  parts-from h = subst (λ n. Q n (first f) (second f) (third f)) (sym (p .kind-is)) (subst (λ n. Q k n (second f) (third f)) (sym (p .first-is)) (subst (λ n. Q k a n (third f)) (sym (p .second-is)) (subst (Q k a b) (sym (p .third-is)) h)))
+  parts-from h = subst (λ n. Q n (first f) (second f) (third f)) (sym (p .kind-is)) (subst (λ n. Q k n (second f) (third f))
+      (sym (p .first-is)) (subst (λ n. Q k a n (third f)) (sym (p .second-is)) (subst (Q k a b) (sym (p .third-is)) h)))
 
 -- A number is made of its digits at a base.
 digits-whole : (B w : ℕ) → ((w / B / B / B * B + w / B / B % B) * B + w / B % B) * B + w % B ≡ w
 digits-whole B w =
-    ap (λ n. (n * B + w / B % B) * B + w % B) (div-add-mod' (w / B / B) B) ∙ (ap (λ n. n * B + w % B) (div-add-mod' (w / B) B) ∙ div-add-mod' w B)
+    ap (λ n. (n * B + w / B % B) * B + w % B) (div-add-mod' (w / B / B) B) ∙ (ap (λ n. n * B + w % B) (div-add-mod' (w / B) B)
+    ∙ div-add-mod' w B)
 
 -- Digits are the parts of the fact made of them exactly if its word is theirs.
 module _ (B k a b c : ℕ) (p : a < B) (q : b < B) (r : c < B) where
@@ -119,8 +155,10 @@ parts-word B k a b c s = parts-from (λ k′ a′ b′ c′. ((k′ * B + a′) 
 pub word-made : (k a b c : ℕ) → Shaped k b c → word (product .base) (made k a b c) ≡ wordOf k a b c
 word-made k a b c s = parts-word (product .base) k a b c (made-parts k a b c s)
 
-module _ (N : Numbers) (w k a b c : ℕ) (p : a < N .base) (q : b < N .base) (r : c < N .base) (whole : ((k * N .base + a) * N .base + b) * N .base + c ≡ w) where
-  tests-made : Tests (eqb (word (N .base) (made k a b c)) w && allowed (N .top) (made k a b c)) (Shaped k b c × Allowed (N .top) k a b c)
+module _ (N : Numbers) (w k a b c : ℕ) (p : a < N .base) (q : b < N .base) (r : c < N .base)
+    (whole : ((k * N .base + a) * N .base + b) * N .base + c ≡ w) where
+  tests-made : Tests (eqb (word (N .base) (made k a b c)) w && allowed (N .top) (made k a b c)) (Shaped k b c
+      × Allowed (N .top) k a b c)
   tests-made = tests-as (tests-and (tests-eq (word (N .base) (made k a b c)) w) (tests-ids (N .top) (made k a b c)))
       (λ h. let s = word-parts (N .base) k a b c p q r (h .0 ∙ sym whole) in
       (parts-to (λ x y z u. Shaped x z u) s (parts-shaped (made k a b c)), parts-to (Allowed (N .top)) s (h .1)))
@@ -128,8 +166,12 @@ module _ (N : Numbers) (w k a b c : ℕ) (p : a < N .base) (q : b < N .base) (r 
       (parts-word (N .base) k a b c s ∙ whole, parts-from (Allowed (N .top)) s (h .1)))
 
 -- The same for the product, by numbers that are a word's parts.
-pub tests-fact : (w k a b c : ℕ) → k ≡ kindOf w → a ≡ firstOf w → b ≡ secondOf w → c ≡ thirdOf w → Tests (isFact product w) (Shaped k b c × Allowed (product .top) k a b c)
+pub tests-fact : (w k a b c : ℕ) → k ≡ kindOf w → a ≡ firstOf w → b ≡ secondOf w → c ≡ thirdOf w
+    → Tests (isFact product w) (Shaped k b c × Allowed (product .top) k a b c)
 tests-fact w k a b c p q r s =
     let Q : ℕ → ℕ → ℕ → ℕ → Type 0 = λ x y z u. Tests (isFact product w) (Shaped x z u × Allowed (product .top) x y z u) in
-    let h : Q (kindOf w) (firstOf w) (secondOf w) (thirdOf w) = tests-made product w _ _ _ _ (mod-lt (w / product .base / product .base) (lit< tt)) (mod-lt (w / product .base) (lit< tt)) (mod-lt w (lit< tt)) (digits-whole (product .base) w) in
-    subst (λ n. Q n a b c) (sym p) (subst (λ n. Q (kindOf w) n b c) (sym q) (subst (λ n. Q (kindOf w) (firstOf w) n c) (sym r) (subst (Q (kindOf w) (firstOf w) (secondOf w)) (sym s) h)))
+    let h : Q (kindOf w) (firstOf w) (secondOf w) (thirdOf w) =
+    tests-made product w _ _ _ _ (mod-lt (w / product .base / product .base) (lit< tt)) (mod-lt (w / product .base) (lit< tt))
+    (mod-lt w (lit< tt)) (digits-whole (product .base) w) in
+    subst (λ n. Q n a b c) (sym p) (subst (λ n. Q (kindOf w) n b c) (sym q) (subst (λ n. Q (kindOf w) (firstOf w) n c) (sym r)
+    (subst (Q (kindOf w) (firstOf w) (secondOf w)) (sym s) h)))

@@ -25,10 +25,12 @@ walk-start t = record { within = omega arith; rest = refl }
 -- The first of some words, by what it is.
 module _ (least w : ℕ) (l : List ℕ) where
   pub laid-some : 0 < w → laidOut product least (w ∷ l) ≡ (leb least w && (isFact product w && laidOut product (suc w) l))
-  laid-some p = ap (λ b. cond b (zeros l) (leb least w && (isFact product w && laidOut product (suc w) l))) (ne-eqb w 0 (omega arith))
+  laid-some p =
+      ap (λ b. cond b (zeros l) (leb least w && (isFact product w && laidOut product (suc w) l))) (ne-eqb w 0 (omega arith))
 
   pub laid-on : least ≤ w → 0 < w → isFact product w ≡ true → laidOut product least (w ∷ l) ≡ laidOut product (suc w) l
-  laid-on h p e = laid-some p ∙ (ap (λ b. b && (isFact product w && laidOut product (suc w) l)) (le-leb least w h) ∙ ap (λ b. b && laidOut product (suc w) l) e)
+  laid-on h p e = laid-some p ∙ (ap (λ b. b && (isFact product w && laidOut product (suc w) l)) (le-leb least w h)
+      ∙ ap (λ b. b && laidOut product (suc w) l) e)
 
   either-zero : (b rest : Bool) → rest ≡ false → cond b (zeros l) rest ≡ (b && zeros l)
   either-zero true rest e = refl
@@ -47,11 +49,18 @@ module _ {t : List ℕ} {i last : ℕ} (k : Walk t i last) where
   pub walk-more : i < length t → last < getD t i 0 → isFact product (getD t i 0) ≡ true → Walk t (i + 1) (getD t i 0)
   walk-more h l e = record {
     within = omega arith;
-    rest = k .rest ∙ (ap (laidOut product (suc last)) (drop-cons t i 0 h) ∙ (laid-on (suc last) (getD t i 0) (drop (suc i) t) l (omega arith) e ∙ ap (λ n. laidOut product (suc (getD t i 0)) (drop n t)) (sym (add-one i))));
+    rest = k .rest ∙ (ap (laidOut product (suc last)) (drop-cons t i 0 h)
+        ∙ (laid-on (suc last) (getD t i 0) (drop (suc i) t) l (omega arith) e
+        ∙ ap (λ n. laidOut product (suc (getD t i 0)) (drop n t)) (sym (add-one i))));
   }
 
-  stop : i < length t → laidOut product (suc last) (getD t i 0 ∷ drop (suc i) t) ≡ zeros (getD t i 0 ∷ drop (suc i) t) → Rising t i
-  stop h e = record { within = k .within; rest = k .rest ∙ (ap (laidOut product (suc last)) (drop-cons t i 0 h) ∙ (e ∙ ap zeros (sym (drop-cons t i 0 h)))) }
+  stop : i < length t → laidOut product (suc last) (getD t i 0 ∷ drop (suc i) t) ≡ zeros (getD t i 0 ∷ drop (suc i) t)
+      → Rising t i
+  stop h e = record {
+    within = k .within;
+    rest = k .rest ∙ (ap (laidOut product (suc last)) (drop-cons t i 0 h)
+        ∙ (e ∙ ap zeros (sym (drop-cons t i 0 h))));
+  }
 
   pub walk-low : i < length t → getD t i 0 ≤ last → Rising t i
   walk-low h l = stop h (laid-low (suc last) (getD t i 0) (drop (suc i) t) (omega arith))
@@ -67,7 +76,8 @@ module _ {t : List ℕ} {i last : ℕ} (k : Walk t i last) where
 -- Zeros from a place on.
 module _ (t : List ℕ) (i : ℕ) where
   zeros-more : i < length t → getD t i 0 ≡ 0 → zeros (drop i t) ≡ zeros (drop (i + 1) t)
-  zeros-more h e = ap zeros (drop-cons t i 0 h) ∙ (ap (λ n. eqb n 0 && zeros (drop (suc i) t)) e ∙ ap (λ n. zeros (drop n t)) (sym (add-one i)))
+  zeros-more h e = ap zeros (drop-cons t i 0 h) ∙ (ap (λ n. eqb n 0 && zeros (drop (suc i) t)) e
+      ∙ ap (λ n. zeros (drop n t)) (sym (add-one i)))
 
   zeros-stop : i < length t → (getD t i 0 ≡ 0 → ⊥) → zeros (drop i t) ≡ false
   zeros-stop h n = ap zeros (drop-cons t i 0 h) ∙ ap (λ b. b && zeros (drop (suc i) t)) (ne-eqb (getD t i 0) 0 n)

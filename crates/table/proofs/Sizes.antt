@@ -12,6 +12,13 @@ use Rattle.rdfs.proofs.Tests.{Tests, tests-or, tests-as}
 
 pub tests-size : (N : Numbers) (t : List ℕ) → Tests (badSize N t) ((length t ≡ 0) ⊎ (N .most < length t))
 tests-size N t = tests-as
-    (tests-or {s = leb (length t) 0} {t = ltb (N .most) (length t)} (record { sound = leb→le (length t) 0; complete = le→leb (length t) 0 }) (record { sound = ltb→lt (N .most) (length t); complete = lt→ltb (N .most) (length t) }))
+    (tests-or {s = leb (length t) 0} {t = ltb (N .most) (length t)} (record {
+      sound = leb→le (length t) 0;
+      complete = le→leb (length t) 0;
+    }) (record {
+      sound = ltb→lt (N .most) (length t);
+      complete =
+          lt→ltb (N .most) (length t);
+    }))
     (⊎-elim (λ h. inl (omega arith)) inr)
     (⊎-elim (λ h. inl (omega arith)) inr)

@@ -11,7 +11,8 @@ use Rattle.table.specs.declared.search.Found.the-variants.{At, Missing}
 abbrev pub below : List ℕ → ℕ → ℕ
 below l w = count (λ x. ltb x w) l
 
--- The place of w: as many words stand before it as are below it. If w is not there, it would go to that place.
+-- The place of w: as many words stand before it as are below it. If w is not there, it would go to that
+-- place.
 abbrev pub foundAs : Bool → ℕ → Found
 foundAs true i = At i
 foundAs false i = Missing i

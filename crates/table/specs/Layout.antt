@@ -12,7 +12,8 @@ use Rattle.rdfs.specs.Words.{laidOut}
 abbrev pub zeros : List ℕ → Bool
 zeros l = all (λ x. eqb x 0) l
 
--- The words before place r are facts, ascending: the table is laid out if the others are zeros, and only then.
+-- The words before place r are facts, ascending: the table is laid out if the others are zeros, and only
+-- then.
 pub record Rising (t : List ℕ) (r : ℕ) : Type 0 where
   pub within : r ≤ length t
   pub rest : laidOut product 1 t ≡ zeros (drop r t)

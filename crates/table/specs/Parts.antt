@@ -23,7 +23,8 @@ wordOf k a b c = ((k * product .base + a) * product .base + b) * product .base +
 
 -- The kinds' numbers, in the order in which `Fact` has them.
 abbrev pub kindNumbers : List ℕ
-kindNumbers = map kind (cl 0 ∷ pr 0 ∷ ind 0 ∷ lit 0 ∷ csub 0 0 ∷ psub 0 0 ∷ dom 0 0 ∷ rng 0 0 ∷ ci 0 0 ∷ pi 0 0 0 ∷ [])
+kindNumbers =
+    map kind (cl 0 ∷ pr 0 ∷ ind 0 ∷ lit 0 ∷ csub 0 0 ∷ psub 0 0 ∷ dom 0 0 ∷ rng 0 0 ∷ ci 0 0 ∷ pi 0 0 0 ∷ [])
 
 -- Numbers that make a word: a kind that leaves room for more kinds, ids that are digits.
 pub record Digits (k a b c : ℕ) : Type 0 where

@@ -6,15 +6,12 @@ ghost use Rattle.rdfs.specs.Numbers.{product};
 ghost use Rattle.rdfs.specs.Words.{laidOut, filled};
 ghost use Rattle.rdfs.specs.Register.{badSize, layoutRefusal};
 ghost use Rattle.table.specs.Layout.{zeros, Rising};
+use crate::refusals::BAD_LAYOUT;
+use crate::refusals::BAD_SIZE;
 use crate::words::MOST;
 use crate::words::Word;
 use crate::words::is_below;
 use crate::words::is_fact;
-
-// Refusal 1: a table of no words or above the most.
-pub const BAD_SIZE: u8 = 1;
-// Refusal 2: a table not laid out.
-pub const BAD_LAYOUT: u8 = 2;
 
 // Refusal 1: whether a table has no words, or more than the most.
 pub fn is_bad_size(t: &[Word]) -> bool
@@ -50,7 +47,8 @@ fn count_rising(t: &[Word]) -> usize
     i
 }
 
-// Whether the words from place n on are zeros, by the highest of them: with no return from the loop it is compiled to several words at a time.
+// Whether the words from place n on are zeros, by the highest of them: with no return from the loop it is
+// compiled to several words at a time.
 fn is_zero_from(t: &[Word], n: usize) -> bool
     ensures { λ r. ⌜ r ≡ zeros (drop n (now (t .entry))) ⌝ }
 {

@@ -1,17 +1,30 @@
 // A lent table of words: the word of a fact, the layout of a table, the search in it, room made and filled.
 //
-// The functions serve the crates above; what they require stands in their contracts. The public calls `fresh` and `lookup` stand in
-// `table_calls`. The crate assumes nothing.
+// The functions serve the crates above; what they require stands in their contracts. The public calls `fresh`
+// and `lookup` stand in `table_calls`. The crate assumes nothing.
 mod layout;
+mod refusals;
 mod room;
 mod search;
 mod words;
 
-pub use layout::BAD_LAYOUT;
-pub use layout::BAD_SIZE;
 pub use layout::count_facts;
 pub use layout::is_bad_size;
 pub use layout::layout_refusal;
+pub use refusals::BAD_IDS;
+pub use refusals::BAD_KIND;
+pub use refusals::BAD_LAYOUT;
+pub use refusals::BAD_LENGTH;
+pub use refusals::BAD_OPERATION;
+pub use refusals::BAD_SIZE;
+pub use refusals::CLASHING;
+pub use refusals::FEW_ANSWERS;
+pub use refusals::GUARDED;
+pub use refusals::INCONSISTENT;
+pub use refusals::MALFORMED;
+pub use refusals::SHORT_OUTPUT;
+pub use refusals::TOO_MANY;
+pub use refusals::UNKNOWN_PROPERTY;
 pub use room::clear_from;
 pub use room::copy_words;
 pub use room::put_at;

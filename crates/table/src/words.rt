@@ -5,7 +5,17 @@ ghost use lib.Dec.{ltb};
 ghost use Rattle.rdfs.specs.Numbers.{product, arity};
 ghost use Rattle.rdfs.specs.Words.{isFact};
 ghost use Rattle.table.specs.Answers.{Decides};
-ghost use Rattle.table.specs.Parts.{kindOf, firstOf, secondOf, thirdOf, wordOf, kindNumbers, Digits, Shaped, Allowed};
+ghost use Rattle.table.specs.Parts.{
+  kindOf,
+  firstOf,
+  secondOf,
+  thirdOf,
+  wordOf,
+  kindNumbers,
+  Digits,
+  Shaped,
+  Allowed,
+};
 
 pub type Word = u32;
 

@@ -15,7 +15,7 @@ use Rattle.rdfs.specs.Register.{orElse, badSize}
 use Rattle.table.specs.Parts.{wordOf}
 use Rattle.table.specs.Room.{clearedFrom}
 use Rattle.table.proofs.Sizes.{tests-size}
-use Rattle.table.proofs.Refusals.{refusal}
+use Rattle.table.proofs.TableRefusals.{refusal}
 use Rattle.table_calls.specs.Calls.{freshAnswer, freshWords, lookupAnswer, lookupPresent}
 
 -- Whether a lookup says yes, by the tests of a table's size and layout.
@@ -48,7 +48,8 @@ module _ (t : List ℕ) where
 
 -- A table of a good size has a first word.
 pub size-some : (N : Numbers) (t : List ℕ) → badSize N t ≡ false → 0 < length t
-size-some N t e = elim (decLt 0 (length t)) [ yes l ↦ l | no n ↦ absurd (subst T e (tests-size N t .complete (inl (omega (arith, n))))) ]
+size-some N t e =
+    elim (decLt 0 (length t)) [ yes l ↦ l | no n ↦ absurd (subst T e (tests-size N t .complete (inl (omega (arith, n))))) ]
 
 -- The word of Cl(0), then zeros.
 pub fresh-made : (t : List ℕ) → 0 < length t → clearedFrom (set t 0 (wordOf 1 0 0 0)) 1 ≡ fresh product (length t)

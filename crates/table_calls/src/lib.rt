@@ -1,7 +1,7 @@
 // A lent table made fresh, and a word looked up among the facts of one.
 //
-// The public calls are `fresh` and `lookup`. They have no `requires`: each says, for all inputs, what it answers and every word
-// afterwards. The crate assumes nothing.
+// The public calls are `fresh` and `lookup`. They have no `requires`: each says, for all inputs, what it
+// answers and every word afterwards. The crate assumes nothing.
 ghost use mathlib.Core.Path.{_≡_};
 ghost use Rattle.table_calls.specs.Calls.{freshAnswer, freshWords, lookupAnswer, lookupPresent};
 use table::BAD_SIZE;
@@ -34,9 +34,11 @@ pub fn fresh(t: &mut [Word]) -> u8
     0
 }
 
-// Whether w is among the facts of a table. Refused with 1 or 2, it says no. A word that is no fact, 0 too, is not there.
+// Whether w is among the facts of a table. Refused with 1 or 2, it says no. A word that is no fact, 0 too, is
+// not there.
 pub fn lookup(t: &[Word], w: Word) -> Looked
-    ensures { λ r. ⌜ (r .answer ≡ lookupAnswer (now (t .entry))) × (r .present ≡ lookupPresent (now (t .entry)) w) ⌝ }
+    ensures { λ r. ⌜ (r .answer ≡ lookupAnswer (now (t .entry)))
+        × (r .present ≡ lookupPresent (now (t .entry)) w) ⌝ }
 {
     let answer = layout_refusal(t);
     if answer != 0 {

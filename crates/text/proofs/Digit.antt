@@ -9,17 +9,20 @@ use Rattle.text.specs.Digit.{digitValue}
 
 module _ (x : ℕ) where
   -- The four comparisons.
-  by-tests : {p q r s : Bool} → leb 48 x ≡ p → leb x 57 ≡ q → leb 97 x ≡ r → leb x 102 ≡ s → digitValue x ≡ cond (p && q) (x - 48) (cond (r && s) (x - 87) 0)
+  by-tests : {p q r s : Bool} → leb 48 x ≡ p → leb x 57 ≡ q → leb 97 x ≡ r → leb x 102 ≡ s → digitValue x ≡ cond (p && q) (x - 48)
+      (cond (r && s) (x - 87) 0)
   by-tests {p} {q} {r} {s} a b c d =
       ap (λ e. cond (e && leb x 57) (x - 48) (cond (leb 97 x && leb x 102) (x - 87) 0)) a
       ∙ (ap (λ e. cond (p && e) (x - 48) (cond (leb 97 x && leb x 102) (x - 87) 0)) b
-      ∙ (ap (λ e. cond (p && q) (x - 48) (cond (e && leb x 102) (x - 87) 0)) c ∙ ap (λ e. cond (p && q) (x - 48) (cond (r && e) (x - 87) 0)) d))
+      ∙ (ap (λ e. cond (p && q) (x - 48) (cond (e && leb x 102) (x - 87) 0)) c
+      ∙ ap (λ e. cond (p && q) (x - 48) (cond (r && e) (x - 87) 0)) d))
 
   pub value-digit : 48 ≤ x → x ≤ 57 → digitValue x ≡ x - 48
   value-digit l h = by-tests (le-leb 48 x l) (le-leb x 57 h) refl refl
 
   pub value-letter : 97 ≤ x → x ≤ 102 → digitValue x ≡ (x - 97) + 10
-  value-letter l h = by-tests (le-leb 48 x (omega arith)) (lt-leb x 57 (omega arith)) (le-leb 97 x l) (le-leb x 102 h) ∙ omega arith
+  value-letter l h = by-tests (le-leb 48 x (omega arith)) (lt-leb x 57 (omega arith)) (le-leb 97 x l) (le-leb x 102 h)
+      ∙ omega arith
 
   -- Below the digits, between digits and letters, above the letters.
   pub value-below : x < 48 → digitValue x ≡ 0

@@ -13,7 +13,8 @@ use Rattle.text.specs.Text.{Number, Fits, Puts}
 
 digits-length : (k n : ℕ) → length (digits 10 k n) ≡ k
 digits-length zero n = refl
-digits-length (suc k) n = length-append (digits 10 k (n / 10)) (glyph (n % 10) ∷ []) ∙ (ap (λ m. m + 1) (digits-length k (n / 10)) ∙ add-one k)
+digits-length (suc k) n = length-append (digits 10 k (n / 10)) (glyph (n % 10) ∷ []) ∙ (ap (λ m. m + 1) (digits-length k (n / 10))
+    ∙ add-one k)
 
 number-length : (k n x : ℕ) → length (digits 10 k n ++ (x ∷ [])) ≡ k + 1
 number-length k n x = length-append (digits 10 k n) (x ∷ []) ∙ ap (λ m. m + 1) (digits-length k n)
@@ -59,15 +60,18 @@ copied-more at i before new after h k q =
     let x : ℕ = getD new i 0 in
     let here : (at + (i + 1)) ≡ (at + i) + 1 = omega arith in
     let longer : take i new ++ (x ∷ []) ≡ take (i + 1) new = sym (ap (λ m. take m new) (add-one i) ∙ take-suc new i 0 k) in
-    ap (λ m. take m (set after (at + i) x)) here ∙ (put-next after (at + i) x h ∙ (ap (λ l. l ++ (x ∷ [])) q ∙ (append-assoc (take at before) (take i new) (x ∷ []) ∙ ap (λ l. take at before ++ l) longer)))
+    ap (λ m. take m (set after (at + i) x)) here ∙ (put-next after (at + i) x h ∙ (ap (λ l. l ++ (x ∷ [])) q
+    ∙ (append-assoc (take at before) (take i new) (x ∷ []) ∙ ap (λ l. take at before ++ l) longer)))
 
 -- Digits and the byte after them.
-pub number-put : (at n k x : ℕ) (before new after : List ℕ) → at + k < length after → Fewest 10 1 n k → take k new ≡ digits 10 k n → Copied at k before new after
+pub number-put : (at n k x : ℕ) (before new after : List ℕ) → at + k < length after → Fewest 10 1 n k → take k new ≡ digits 10 k n
+    → Copied at k before new after
     → Puts (Number n x) at (at + k + 1) before (set after (at + k) x)
 number-put at n k x before new after h f e q = record {
   text = digits 10 k n ++ (x ∷ []);
   is = (k, f, refl);
-  there = put-next after (at + k) x h ∙ (ap (λ l. l ++ (x ∷ [])) (q ∙ ap (λ l. take at before ++ l) e) ∙ append-assoc (take at before) (digits 10 k n) (x ∷ []));
+  there = put-next after (at + k) x h ∙ (ap (λ l. l ++ (x ∷ [])) (q ∙ ap (λ l. take at before ++ l) e)
+      ∙ append-assoc (take at before) (digits 10 k n) (x ∷ []));
   end = omega (arith, number-length k n x);
 }
 

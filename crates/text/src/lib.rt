@@ -1,7 +1,7 @@
 // Numbers as text: decimal digits put into a lent buffer, and the value of a hexadecimal digit.
 //
-// Both functions serve the programs and their libraries. `put_number` requires that the number's text has room; `digit_of` requires nothing. The crate assumes
-// nothing.
+// Both functions serve the programs and their libraries. `put_number` requires that the number's text has
+// room; `digit_of` requires nothing. The crate assumes nothing.
 ghost use mathlib.Core.Path.{_≡_};
 ghost use Prim.Native.Nat.{_<_};
 ghost use Rattle.text.specs.Text.{Number, Fits, Puts};

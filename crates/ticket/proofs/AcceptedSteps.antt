@@ -30,7 +30,8 @@ use Rattle.ticket.proofs.RefusedSteps.{clash-free}
 module _ (w bytes : List ℕ) where
   -- A refused step.
   pub stepped-refused : (n k : ℕ) → step product w bytes ≡ refusedWith k w → Stepped n (Refused k) w (step product w bytes)
-  stepped-refused n k e = subst (Stepped n (Refused k) w) (sym e) (record { number = refl; added = refl; removed = refl; words = refl; fits = tt })
+  stepped-refused n k e =
+      subst (Stepped n (Refused k) w) (sym e) (record { number = refl; added = refl; removed = refl; words = refl; fits = tt })
 
   module _ (t : Table product w) (n : ℕ) (c : n ≡ length (filled w)) where
     pub count-fits : n ≤ product .most
@@ -38,18 +39,28 @@ module _ (w bytes : List ℕ) where
 
     -- A step that changes nothing.
     pub stepped-same : step product w bytes ≡ unchanged w → Stepped n (Facts n) w (step product w bytes)
-    stepped-same e = subst (Stepped n (Facts n) w) (sym e) (record { number = refl; added = omega arith; removed = omega arith; words = refl; fits = count-fits })
+    stepped-same e = subst (Stepped n (Facts n) w) (sym e) (record {
+      number = refl;
+      added = omega arith;
+      removed = omega arith;
+      words = refl;
+      fits = count-fits;
+    })
 
     -- Facts before and added are facts after and removed.
-    balance : step product w bytes .number ≡ 0 → n + step product w bytes .added ≡ length (words product (new product w bytes)) + step product w bytes .removed
+    balance : step product w bytes .number ≡ 0 → n + step product w bytes .added ≡ length (words product (new product w bytes)) +
+        step product w bytes .removed
     balance e =
         let l = accepted-leaves product w bytes e in
-        let b = besides-balance (filled w) (words product (new product w bytes)) (laid-ascending product w (t .laid)) (sort-ascending (map (word (product .base)) (new product w bytes))) in
+        let b = besides-balance (filled w) (words product (new product w bytes)) (laid-ascending product w (t .laid))
+        (sort-ascending (map (word (product .base)) (new product w bytes))) in
         omega (arith, l .added, l .removed, b, c)
 
     -- An accepted step that leaves the words of K, m of them, and adds nothing or removes nothing.
-    stepped-changed : (K : List Fact) (m : ℕ) → new product w bytes ≡ K → m ≡ length (words product K) → m ≤ length w → step product w bytes .number ≡ 0
-        → (step product w bytes .added ≡ 0) ⊎ (step product w bytes .removed ≡ 0) → Stepped n (Facts m) (padded (length w) (words product K)) (step product w bytes)
+    stepped-changed : (K : List Fact) (m : ℕ) → new product w bytes ≡ K → m ≡ length (words product K) → m ≤ length w
+        → step product w bytes .number ≡ 0
+        → (step product w bytes .added ≡ 0) ⊎ (step product w bytes .removed ≡ 0)
+        → Stepped n (Facts m) (padded (length w) (words product K)) (step product w bytes)
     stepped-changed K m same d room e z =
         let after : m ≡ length (words product (new product w bytes)) = d ∙ ap (λ L. length (words product L)) (sym same) in
         record {
@@ -62,9 +73,11 @@ module _ (w bytes : List ℕ) where
 
     module _ (f : Formed product bytes) (m : ℕ) where
       -- An insertion without a clash whose graph fits.
-      pub stepped-inserted : T (inserts (decoded bytes)) → (T (unknownProperty (facts product w) (decoded bytes)) → ⊥) → (T (lookupClash (facts product w) (decoded bytes)) → ⊥)
+      pub stepped-inserted : T (inserts (decoded bytes)) → (T (unknownProperty (facts product w) (decoded bytes)) → ⊥)
+          → (T (lookupClash (facts product w) (decoded bytes)) → ⊥)
           → m ≡ length (words product (insertion (product .top) (facts product w) (asked (decoded bytes)))) → m ≤ length w
-          → Stepped n (Facts m) (padded (length w) (words product (insertion (product .top) (facts product w) (asked (decoded bytes))))) (step product w bytes)
+          → Stepped n (Facts m) (padded (length w) (words product (insertion (product .top) (facts product w)
+          (asked (decoded bytes))))) (step product w bytes)
       stepped-inserted i k free d room =
           let same = new-is product product-sound w bytes t i in
           let after : m ≡ length (words product (new product w bytes)) = d ∙ ap (λ L. length (words product L)) (sym same) in
@@ -78,7 +91,10 @@ module _ (w bytes : List ℕ) where
           stepped-changed _ m same d room e (inr (insertion-grows product product-sound w bytes t i e))
 
       -- A deletion.
-      pub stepped-deleted : T (deletes (decoded bytes)) → m ≡ length (words product (deletion (facts product w) (named (decoded bytes)))) → m ≤ length w
-          → Stepped n (Facts m) (padded (length w) (words product (deletion (facts product w) (named (decoded bytes))))) (step product w bytes)
-      stepped-deleted g d room = stepped-changed _ m (steps.new-is product product-sound w bytes t g f) d room (steps.deletion-accepted product product-sound w bytes t g f)
+      pub stepped-deleted : T (deletes (decoded bytes))
+          → m ≡ length (words product (deletion (facts product w) (named (decoded bytes)))) → m ≤ length w
+          → Stepped n (Facts m) (padded (length w) (words product (deletion (facts product w) (named (decoded bytes)))))
+          (step product w bytes)
+      stepped-deleted g d room = stepped-changed _ m (steps.new-is product product-sound w bytes t g f) d room
+          (steps.deletion-accepted product product-sound w bytes t g f)
           (inl (steps.deletion-shrinks product product-sound w bytes t g f))

@@ -1,5 +1,5 @@
--- Demands 1 and 2 about the single call itself: r is what `apply` answers and v the words it leaves, and all that is known of them is its
--- contract, `ApplyPromise`. Assumes nothing.
+-- Demands 1 and 2 about the single call itself: r is what `apply` answers and v the words it leaves, and all that is known of
+-- them is its contract, `ApplyPromise`. Assumes nothing.
 use Prim.Native.Nat.{ℕ}
 use mathlib.Core.Path.{_≡_, sym, ap, subst, _∙_}
 use mathlib.Core.Bool.{Bool, true, false}
@@ -19,7 +19,14 @@ use Rattle.rdfs.proofs.Refusals.{passed}
 use Rattle.rdfs.proofs.Steps.{step-number, refused-keeps}
 use Rattle.rdfs.proofs.TicketTests.{known-operation}
 use Rattle.rdfs.proofs.AfterEach.{after}
-use Rattle.rdfs.proofs.Theorems.{product-sound, insertion-is-smallest, ten-is-exact, eleven-only-if-full, deletion-is-largest, repeat-changes-nothing}
+use Rattle.rdfs.proofs.Theorems.{
+  product-sound,
+  insertion-is-smallest,
+  ten-is-exact,
+  eleven-only-if-full,
+  deletion-is-largest,
+  repeat-changes-nothing,
+}
 use Rattle.ticket.specs.Answered.{ApplyPromise}
 use Rattle.ticket.specs.Demand1.{conditions, First, none, here, later, Demand1}
 use Rattle.ticket.specs.declared.Applied.{Applied}
@@ -32,8 +39,12 @@ link false l n rest h = later (λ f. f) h
 -- Demand 1: the answer is 0 or the first refusal whose condition holds, and a refusal moves nothing.
 pub demand-1 : (w b v : List ℕ) (r : Applied) → ApplyPromise w b r v → Demand1 w b v r
 demand-1 w b v r a = record {
-  first = subst (First (conditions w b)) (sym (a .number ∙ step-number product w b)) (link _ _ 1 _ (link _ _ 2 _ (link _ _ 3 _ (link _ _ 4 _ (link _ _ 5 _ (link _ _ 6 _ (link _ _ 7 _ (link _ _ 8 _ (link _ _ 9 _ (link _ _ 10 _ (link _ [] 11 0 none)))))))))));
-  moves-nothing = λ n. let k = refused-keeps product w b (λ e. n (a .number ∙ e)) in (a .words ∙ k .table, a .added ∙ k .added, a .removed ∙ k .removed);
+  first = subst (First (conditions w b)) (sym (a .number ∙ step-number product w b))
+      (link _ _ 1 _ (link _ _ 2 _ (link _ _ 3 _
+      (link _ _ 4 _ (link _ _ 5 _ (link _ _ 6 _
+      (link _ _ 7 _ (link _ _ 8 _ (link _ _ 9 _ (link _ _ 10 _ (link _ [] 11 0 none)))))))))));
+  moves-nothing = λ n. let k = refused-keeps product w b (λ e. n (a .number ∙ e)) in
+      (a .words ∙ k .table, a .added ∙ k .added, a .removed ∙ k .removed);
 }
 
 -- On a consistent table.
@@ -42,27 +53,36 @@ module _ (w b v : List ℕ) (r : Applied) (t : Table product w) (a : ApplyPromis
   zero-number e = sym (a .number) ∙ e
 
   -- Demand 2: an accepted insertion leaves the smallest consistent graph that holds the table and the asked facts.
-  pub call-smallest : T (defs.inserts (defs.decoded b)) → r .answer ≡ 0 → Smallest (graph (facts product w)) (graph (defs.asked (defs.decoded b))) (graph (facts product v))
-  call-smallest i e = subst (λ x. Smallest (graph (facts product w)) (graph (defs.asked (defs.decoded b))) (graph (facts product x))) (sym (a .words))
+  pub call-smallest : T (defs.inserts (defs.decoded b)) → r .answer ≡ 0
+      → Smallest (graph (facts product w)) (graph (defs.asked (defs.decoded b))) (graph (facts product v))
+  call-smallest i e = subst (λ x. Smallest (graph (facts product w)) (graph (defs.asked (defs.decoded b)))
+      (graph (facts product x))) (sym (a .words))
       (insertion-is-smallest product product-sound w b t i (zero-number e))
 
   -- Past refusal 9, 10 exactly if there is none, whatever its ids; else there is one whose facts a table can have.
-  pub call-ten : T (defs.inserts (defs.decoded b)) → Formed product b → (T (defs.unknownProperty (facts product w) (defs.decoded b)) → ⊥)
+  pub call-ten : T (defs.inserts (defs.decoded b)) → Formed product b
+      → (T (defs.unknownProperty (facts product w) (defs.decoded b)) → ⊥)
       → (r .answer ≡ 10 → Possible (graph (facts product w)) (graph (defs.asked (defs.decoded b))) → ⊥)
       × ((r .answer ≡ 10 → ⊥) → PossibleUpTo (product .top) (graph (facts product w)) (graph (defs.asked (defs.decoded b))))
-  call-ten i f u = let x = ten-is-exact product product-sound w b t i f u in ((λ e. x .0 (sym (a .number) ∙ e)), (λ n. x .1 (λ e. n (a .number ∙ e))))
+  call-ten i f u = let x = ten-is-exact product product-sound w b t i f u in
+      ((λ e. x .0 (sym (a .number) ∙ e)), (λ n. x .1 (λ e. n (a .number ∙ e))))
 
   -- 11 only if no table of as many words holds a consistent graph with the table's facts and the asked ones.
   pub call-eleven : T (defs.inserts (defs.decoded b)) → r .answer ≡ 11
-      → (u : List ℕ) → Table product u → length u ≡ length w → _⊑_ (graph (facts product w)) (graph (facts product u)) → _⊑_ (graph (defs.asked (defs.decoded b))) (graph (facts product u)) → ⊥
+      → (u : List ℕ) → Table product u → length u ≡ length w → _⊑_ (graph (facts product w)) (graph (facts product u))
+      → _⊑_ (graph (defs.asked (defs.decoded b))) (graph (facts product u)) → ⊥
   call-eleven i e = eleven-only-if-full product product-sound w b t i (sym (a .number) ∙ e)
 
   -- A deletion past refusal 8 is accepted and leaves the largest consistent part of its family without the fact.
   pub call-largest : T (defs.deletes (defs.decoded b)) → Formed product b
-      → (r .answer ≡ 0) × Largest (graph (facts product w)) (defs.named (defs.decoded b)) (keeps (defs.named (defs.decoded b))) (graph (facts product v))
+      → (r .answer ≡ 0) × Largest (graph (facts product w)) (defs.named (defs.decoded b)) (keeps (defs.named (defs.decoded b)))
+      (graph (facts product v))
   call-largest d f =
-      let x = deletion-is-largest product product-sound w b t d f in
-      (a .number ∙ x .0, subst (λ y. Largest (graph (facts product w)) (defs.named (defs.decoded b)) (keeps (defs.named (defs.decoded b))) (graph (facts product y))) (sym (a .words)) (x .1))
+      let x = deletion-is-largest product product-sound w b t d f in (
+        a .number ∙ x .0,
+        subst (λ y. Largest (graph (facts product w)) (defs.named (defs.decoded b))
+            (keeps (defs.named (defs.decoded b))) (graph (facts product y))) (sym (a .words)) (x .1),
+      )
 
   -- A repeat of an accepted ticket is accepted, and adds and removes nothing.
   pub call-repeat : r .answer ≡ 0 → (u : List ℕ) (q : Applied) → ApplyPromise v b q u
@@ -75,5 +95,10 @@ module _ (w b v : List ℕ) (r : Applied) (t : Table product w) (a : ApplyPromis
       let same : step product v b ≡ unchanged v = repeat-changes-nothing product product-sound v b v-table f (⊎-elim
       (λ i. inl (i, subst (λ y. defs.asked (defs.decoded b) ⊆ facts product y) (sym (a .words)) (x .there-are z i)))
       (λ d. inr (d, λ h. x .is-gone z d (subst (λ y. defs.named (defs.decoded b) ∈ facts product y) (a .words) h)))
-      (known-operation (defs.decoded b) (f .operation))) in
-      (c .number ∙ ap (λ s. s .number) same, c .added ∙ ap (λ s. s .added) same, c .removed ∙ ap (λ s. s .removed) same, c .words ∙ ap (λ s. s .table) same)
+      (known-operation (defs.decoded b) (f .operation))) in (
+        c .number ∙ ap (λ s. s .number) same,
+        c .added ∙ ap (λ s. s .added) same,
+        c .removed ∙ ap (λ s. s .removed) same,
+        c .words
+            ∙ ap (λ s. s .table) same,
+      )

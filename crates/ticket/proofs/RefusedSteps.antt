@@ -32,10 +32,12 @@ answer-refused (suc n) w ws d = refl
 
 pub refused-as : (w bytes : List ℕ) (n : ℕ) → refusal product w bytes ≡ n → (n ≡ 0 → ⊥) → step product w bytes ≡ refusedWith n w
 unfolding step
-refused-as w bytes n e d = ap (λ m. answer m w (words product (new product w bytes))) e ∙ answer-refused n w (words product (new product w bytes)) d
+refused-as w bytes n e d =
+    ap (λ m. answer m w (words product (new product w bytes))) e ∙ answer-refused n w (words product (new product w bytes)) d
 
 -- Refusals 1, 2, 3.
-pub table-refused : (w bytes : List ℕ) (n : ℕ) → tableRefusal product w 0 ≡ n → (n ≡ 0 → ⊥) → step product w bytes ≡ refusedWith n w
+pub table-refused : (w bytes : List ℕ) (n : ℕ) → tableRefusal product w 0 ≡ n → (n ≡ 0 → ⊥)
+    → step product w bytes ≡ refusedWith n w
 table-refused w bytes n e d = refused-as w bytes n (go (badSize product w) (badLayout product w) (inconsistent product w) _ e) d
   where
     go : (p q r : Bool) (rest : ℕ) → orElse p 1 (orElse q 2 (orElse r 3 0)) ≡ n → orElse p 1 (orElse q 2 (orElse r 3 rest)) ≡ n
@@ -48,7 +50,8 @@ table-refused w bytes n e d = refused-as w bytes n (go (badSize product w) (badL
 pub formed-record : (bytes : List ℕ) → length bytes ≡ recordLength → formRefusal (decoded bytes) ≡ 0 → Formed product bytes
 formed-record bytes l e =
     let p = form-passes (decoded bytes) e in
-    let whole : T (badLength bytes) → ⊥ = λ h. T-not (eqb (length bytes) recordLength) h (subst T (sym (eq-eqb (length bytes) recordLength l)) tt) in
+    let whole : T (badLength bytes) → ⊥ =
+    λ h. T-not (eqb (length bytes) recordLength) h (subst T (sym (eq-eqb (length bytes) recordLength l)) tt) in
     record { long = whole; operation = p .operation; kind = p .kind; ids = p .ids; free = p .free }
 
 module _ (w bytes : List ℕ) (t : Table product w) where
@@ -60,16 +63,20 @@ module _ (w bytes : List ℕ) (t : Table product w) where
   length-refused h = refused-as w bytes 4 (sym (step-number product w bytes) ∙ wrong-length product w bytes t h) (omega arith)
 
   -- Refusals 5 to 8.
-  pub form-refused-as : (n : ℕ) → length bytes ≡ recordLength → formRefusal (decoded bytes) ≡ n → (n ≡ 0 → ⊥) → step product w bytes ≡ refusedWith n w
+  pub form-refused-as : (n : ℕ) → length bytes ≡ recordLength → formRefusal (decoded bytes) ≡ n → (n ≡ 0 → ⊥)
+      → step product w bytes ≡ refusedWith n w
   form-refused-as n l e d =
-      let whole : T (badLength bytes) → ⊥ = λ h. T-not (eqb (length bytes) recordLength) h (subst T (sym (eq-eqb (length bytes) recordLength l)) tt) in
-      refused-as w bytes n (pass-link (badSize product w) 1 _ (sane .size) ∙ (pass-link (badLayout product w) 2 _ (sane .layout) ∙ (pass-link (inconsistent product w) 3 _ (sane .rules)
+      let whole : T (badLength bytes) → ⊥ =
+      λ h. T-not (eqb (length bytes) recordLength) h (subst T (sym (eq-eqb (length bytes) recordLength l)) tt) in
+      refused-as w bytes n (pass-link (badSize product w) 1 _ (sane .size) ∙ (pass-link (badLayout product w) 2 _ (sane .layout)
+      ∙ (pass-link (inconsistent product w) 3 _ (sane .rules)
       ∙ (pass-link (badLength bytes) 4 _ whole ∙ form-refused (decoded bytes) n _ e d)))) d
 
   module _ (f : Formed product bytes) where
     -- Refusal 9.
     pub unknown-refused : T (unknownProperty (facts product w) (decoded bytes)) → step product w bytes ≡ refusedWith 9 w
-    unknown-refused u = refused-as w bytes 9 (to-9 product w bytes sane f ∙ stop-link (unknownProperty (facts product w) (decoded bytes)) 9 _ u) (omega arith)
+    unknown-refused u = refused-as w bytes 9 (to-9 product w bytes sane f
+        ∙ stop-link (unknownProperty (facts product w) (decoded bytes)) 9 _ u) (omega arith)
 
     module _ (i : T (inserts (decoded bytes))) (k : T (unknownProperty (facts product w) (decoded bytes)) → ⊥) where
       abbrev grown : List Fact
@@ -77,23 +84,30 @@ module _ (w bytes : List ℕ) (t : Table product w) where
 
       -- The clash by lookups is that of the graph which the ticket would leave.
       pub looked-clash : lookupClash (facts product w) (decoded bytes) ≡ clashes (new product w bytes)
-      looked-clash = lookup-clash-is-clash (product .top) (facts product w) (decoded bytes) (table-allowed product product-sound w t) i record {
-        consistent = t .consistent;
-        kinds = known-kind (decoded bytes) (f .kind);
-        ids = f .ids;
-        uses = uses-known (facts product w) (decoded bytes) i k;
-      } ∙ ap clashes (sym (new-is product product-sound w bytes t i))
+      looked-clash = lookup-clash-is-clash (product .top) (facts product w) (decoded bytes) (table-allowed product product-sound w
+          t) i record {
+            consistent = t .consistent;
+            kinds = known-kind (decoded bytes) (f .kind);
+            ids = f .ids;
+            uses = uses-known (facts product w) (decoded bytes) i k;
+          } ∙ ap clashes (sym (new-is product product-sound w bytes t i))
 
       -- Refusal 10.
       pub clash-refused : T (lookupClash (facts product w) (decoded bytes)) → step product w bytes ≡ refusedWith 10 w
-      clash-refused c = refused-as w bytes 10 (refuse-10 product w bytes sane f k (both-and (inserts (decoded bytes)) (clashes (new product w bytes)) i (subst T looked-clash c))) (omega arith)
+      clash-refused c = refused-as w bytes 10 (refuse-10 product w bytes sane f k (both-and (inserts (decoded bytes))
+          (clashes (new product w bytes)) i (subst T looked-clash c))) (omega arith)
 
-      pub clash-free : (T (lookupClash (facts product w) (decoded bytes)) → ⊥) → T (clashing (new product w bytes) (decoded bytes)) → ⊥
+      pub clash-free : (T (lookupClash (facts product w) (decoded bytes)) → ⊥)
+          → T (clashing (new product w bytes) (decoded bytes)) → ⊥
       clash-free n h = n (subst T (sym looked-clash) (and-both (inserts (decoded bytes)) (clashes (new product w bytes)) h .1))
 
       -- Refusal 11.
-      pub full-refused : (T (lookupClash (facts product w) (decoded bytes)) → ⊥) → length w < length (words product grown) → step product w bytes ≡ refusedWith 11 w
+      pub full-refused : (T (lookupClash (facts product w) (decoded bytes)) → ⊥) → length w < length (words product grown)
+          → step product w bytes ≡ refusedWith 11 w
       full-refused n h =
-          let more : length w < length (words product (new product w bytes)) = subst (λ L. length w < length (words product L)) (sym (new-is product product-sound w bytes t i)) h in
-          refused-as w bytes 11 (to-9 product w bytes sane f ∙ (pass-link (unknownProperty (facts product w) (decoded bytes)) 9 _ k
-          ∙ (pass-link (clashing (new product w bytes) (decoded bytes)) 10 _ (clash-free n) ∙ stop-link (tooMany product w (new product w bytes)) 11 0 (lt→ltb (length w) _ more)))) (omega arith)
+          let more : length w < length (words product (new product w bytes)) =
+          subst (λ L. length w < length (words product L)) (sym (new-is product product-sound w bytes t i)) h in
+          refused-as w bytes 11 (to-9 product w bytes sane f ∙ (pass-link (unknownProperty (facts product w) (decoded bytes)) 9 _
+          k
+          ∙ (pass-link (clashing (new product w bytes) (decoded bytes)) 10 _ (clash-free n)
+          ∙ stop-link (tooMany product w (new product w bytes)) 11 0 (lt→ltb (length w) _ more)))) (omega arith)

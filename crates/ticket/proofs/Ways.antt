@@ -48,12 +48,14 @@ padded-room : (l x : List ℕ) (n : ℕ) → x ≡ padded n l → length x ≡ n
 padded-room l x n e h = omega (arith, ap length e, length-append l (replicate (n - length l) 0))
 
 -- Words s stored at the front of t, and zeros after them.
-pub put-back-leaves : (t s u : List ℕ) → length s ≤ length t → u ≡ s → clearedFrom (u ++ drop (length s) t) (length s) ≡ padded (length t) s
+pub put-back-leaves : (t s u : List ℕ) → length s ≤ length t → u ≡ s → clearedFrom (u ++ drop (length s) t) (length s) ≡ padded
+    (length t) s
 put-back-leaves t s u h e =
     let r : List ℕ = drop (length s) t in
     let whole : length (s ++ r) ≡ length t = omega (arith, length-append s r, length-drop (length s) t) in
     ap (λ l. clearedFrom (l ++ r) (length s)) e
-    ∙ (ap (λ l. l ++ replicate (length (s ++ r) - length s) 0) (take-append-seam s r) ∙ ap (λ j. s ++ replicate (j - length s) 0) whole)
+    ∙ (ap (λ l. l ++ replicate (length (s ++ r) - length s) 0) (take-append-seam s r) ∙ ap (λ j. s ++ replicate (j - length s) 0)
+    whole)
 
 module _ {w : List ℕ} {n o k a b c : ℕ} (r : Ready w n o k a b c) where
   ready-formed : Formed product (recordOf o k a b c)
@@ -63,15 +65,21 @@ module _ {w : List ℕ} {n o k a b c : ℕ} (r : Ready w n o k a b c) where
   ready-asked = record { table = record { laid = r .table .laid; size = r .size }; formed = r .formed }
 
 module _ {w : List ℕ} {n k a b c : ℕ} (r : Ready w n 1 k a b c) where
-  pub way-unknown : true ≡ unknownProperty (factsOf w) (ticketOf 1 k a b c) → Stepped n (Refused 9) w (step product w (recordOf 1 k a b c))
-  way-unknown e = stepped-refused w (recordOf 1 k a b c) n 9 (unknown-refused w (recordOf 1 k a b c) (r .table) (ready-formed r) (holds (sym e)))
+  pub way-unknown : true ≡ unknownProperty (factsOf w) (ticketOf 1 k a b c)
+      → Stepped n (Refused 9) w (step product w (recordOf 1 k a b c))
+  way-unknown e = stepped-refused w (recordOf 1 k a b c) n 9 (unknown-refused w (recordOf 1 k a b c) (r .table) (ready-formed r)
+      (holds (sym e)))
 
-  pub way-there : true ≡ all (has (factsOf w)) (asked (ticketOf 1 k a b c)) → Stepped n (Facts n) w (step product w (recordOf 1 k a b c))
+  pub way-there : true ≡ all (has (factsOf w)) (asked (ticketOf 1 k a b c))
+      → Stepped n (Facts n) w (step product w (recordOf 1 k a b c))
   way-there e = stepped-same w (recordOf 1 k a b c) (r .table) n (r .size)
-      (repeated-insertion product product-sound w (recordOf 1 k a b c) (r .table) tt (ready-formed r) (tests-all-has (factsOf w) (asked (ticketOf 1 k a b c)) .sound (holds (sym e))))
+      (repeated-insertion product product-sound w (recordOf 1 k a b c) (r .table) tt (ready-formed r)
+      (tests-all-has (factsOf w) (asked (ticketOf 1 k a b c)) .sound (holds (sym e))))
 
-  pub way-clash : false ≡ unknownProperty (factsOf w) (ticketOf 1 k a b c) → true ≡ lookupClash (factsOf w) (ticketOf 1 k a b c) → Stepped n (Refused 10) w (step product w (recordOf 1 k a b c))
-  way-clash u e = stepped-refused w (recordOf 1 k a b c) n 10 (clash-refused w (recordOf 1 k a b c) (r .table) (ready-formed r) tt (fails (sym u)) (holds (sym e)))
+  pub way-clash : false ≡ unknownProperty (factsOf w) (ticketOf 1 k a b c) → true ≡ lookupClash (factsOf w) (ticketOf 1 k a b c)
+      → Stepped n (Refused 10) w (step product w (recordOf 1 k a b c))
+  way-clash u e = stepped-refused w (recordOf 1 k a b c) n 10 (clash-refused w (recordOf 1 k a b c) (r .table) (ready-formed r) tt
+      (fails (sym u)) (holds (sym e)))
 
 -- The words of the graph that an insertion leaves.
 abbrev pub grownWords : List ℕ → ℕ → ℕ → ℕ → ℕ → List ℕ
@@ -79,22 +87,27 @@ grownWords w k a b c = words product (insertion (product .top) (factsOf w) (aske
 
 module _ {w : List ℕ} {n k a b c : ℕ} (p : Possible w n k a b c) where
   pub way-full : length w < length (grownWords w k a b c) → Stepped n (Refused 11) w (step product w (recordOf 1 k a b c))
-  way-full h = stepped-refused w (recordOf 1 k a b c) n 11 (full-refused w (recordOf 1 k a b c) (p .ready .table) (ready-formed (p .ready)) tt (fails (p .known)) (fails (p .free)) h)
+  way-full h = stepped-refused w (recordOf 1 k a b c) n 11 (full-refused w (recordOf 1 k a b c) (p .ready .table)
+      (ready-formed (p .ready)) tt (fails (p .known)) (fails (p .free)) h)
 
-  pub way-grown : (x : List ℕ) (m : ℕ) → x ≡ padded (length w) (grownWords w k a b c) → m ≡ length (grownWords w k a b c) → length x ≡ length w
+  pub way-grown : (x : List ℕ) (m : ℕ) → x ≡ padded (length w) (grownWords w k a b c) → m ≡ length (grownWords w k a b c)
+      → length x ≡ length w
       → Stepped n (Facts m) x (step product w (recordOf 1 k a b c))
   way-grown x m e d l = subst (λ y. Stepped n (Facts m) y (step product w (recordOf 1 k a b c))) (sym e)
-      (stepped-inserted w (recordOf 1 k a b c) (p .ready .table) n (p .ready .size) (ready-formed (p .ready)) m tt (fails (p .known)) (fails (p .free)) d (omega (arith, d, padded-room (grownWords w k a b c) x (length w) e l)))
+      (stepped-inserted w (recordOf 1 k a b c) (p .ready .table) n (p .ready .size) (ready-formed (p .ready)) m tt
+      (fails (p .known)) (fails (p .free)) d (omega (arith, d, padded-room (grownWords w k a b c) x (length w) e l)))
 
 -- The words of the graph that a deletion leaves.
 abbrev pub leftWords : List ℕ → ℕ → ℕ → ℕ → ℕ → List ℕ
 leftWords w k a b c = words product (deletion (factsOf w) (made k a b c))
 
 module _ {w : List ℕ} {n k a b c : ℕ} (r : Ready w n 2 k a b c) where
-  pub way-deleted : (x : List ℕ) (m : ℕ) → x ≡ padded (length w) (leftWords w k a b c) → m ≡ length (leftWords w k a b c) → length x ≡ length w
+  pub way-deleted : (x : List ℕ) (m : ℕ) → x ≡ padded (length w) (leftWords w k a b c) → m ≡ length (leftWords w k a b c)
+      → length x ≡ length w
       → Stepped n (Facts m) x (step product w (recordOf 2 k a b c))
   way-deleted x m e d l = subst (λ y. Stepped n (Facts m) y (step product w (recordOf 2 k a b c))) (sym e)
-      (stepped-deleted w (recordOf 2 k a b c) (r .table) n (r .size) (ready-formed r) m tt d (omega (arith, d, padded-room (leftWords w k a b c) x (length w) e l)))
+      (stepped-deleted w (recordOf 2 k a b c) (r .table) n (r .size) (ready-formed r) m tt d
+      (omega (arith, d, padded-room (leftWords w k a b c) x (length w) e l)))
 
 -- An insertion past refusal 10 may be put in.
 pub possible-insertable : {w : List ℕ} {n k a b c : ℕ} → Possible w n k a b c → Insertable w n (ticketOf 1 k a b c)
@@ -110,7 +123,8 @@ possible-insertable {w} {n} {k} {a} {b} {c} p =
       kinds = known-kind t (f .kind);
       ids = f .ids;
       uses = uses-known (factsOf w) t tt (fails (p .known));
-      free = λ h. fails (p .free) (subst T (sym (looked-clash w bytes (r .table) f tt (fails (p .known)) ∙ ap clashes (new-is product product-sound w bytes (r .table) tt))) h);
+      free = λ h. fails (p .free) (subst T (sym (looked-clash w bytes (r .table) f tt (fails (p .known))
+          ∙ ap clashes (new-is product product-sound w bytes (r .table) tt))) h);
     }
 
 pub possible-within : {w : List ℕ} {n k a b c : ℕ} → Possible w n k a b c → n ≤ length w
@@ -127,15 +141,19 @@ no-room false e = absurd (omega (arith, e))
 -- What the growth of the table w to x says.
 module _ {w : List ℕ} {n k a b c : ℕ} (p : Possible w n k a b c) (x : List ℕ) where
   -- There is no room, and the saved words are put back.
-  pub way-no-room : {s z : List ℕ} → s ≡ take n w → z ≡ padded (length x) s → (g : Grown) → g ≡ Full → GrowMeans w (ticketOf 1 k a b c) x g
+  pub way-no-room : {s z : List ℕ} → s ≡ take n w → z ≡ padded (length x) s → (g : Grown) → g ≡ Full
+      → GrowMeans w (ticketOf 1 k a b c) x g
       → Stepped n (Refused 11) z (step product w (recordOf 1 k a b c))
   way-no-room {s} saved back g f h =
       let q = subst (GrowMeans w (ticketOf 1 k a b c) x) f h in
       let over = no-room (tooMany product w (insertion (product .top) (factsOf w) (asked (ticketOf 1 k a b c)))) (q .0) in
       let t = ready-asked (p .ready) .table in
       let facts-saved : s ≡ filled w = saved ∙ counted-first t in
-      let again = back ∙ (ap (λ j. padded j s) (q .1) ∙ (ap (padded (length w)) facts-saved ∙ sym (laid-shape product w (t .laid)))) in
-      subst (λ y. Stepped n (Refused 11) y (step product w (recordOf 1 k a b c))) (sym again) (way-full p (ltb→lt (length w) (length (grownWords w k a b c)) over))
+      let again =
+      back ∙ (ap (λ j. padded j s) (q .1) ∙ (ap (padded (length w)) facts-saved ∙ sym (laid-shape product w (t .laid)))) in
+      subst (λ y. Stepped n (Refused 11) y (step product w (recordOf 1 k a b c))) (sym again)
+      (way-full p (ltb→lt (length w) (length (grownWords w k a b c)) over))
 
-  pub way-room : (g : Grown) (m : ℕ) → g ≡ Grows m → GrowMeans w (ticketOf 1 k a b c) x g → length x ≡ length w → Stepped n (Facts m) x (step product w (recordOf 1 k a b c))
+  pub way-room : (g : Grown) (m : ℕ) → g ≡ Grows m → GrowMeans w (ticketOf 1 k a b c) x g → length x ≡ length w
+      → Stepped n (Facts m) x (step product w (recordOf 1 k a b c))
   way-room g m f h l = let q = subst (GrowMeans w (ticketOf 1 k a b c) x) f h .1 in way-grown p x m (q .0) (q .1) l

@@ -15,8 +15,9 @@ pub record Answered (r : Applied) (exit : List ℕ) (s : Answer) : Type 0 where
   pub removed : r .removed ≡ s .removed
   pub words : exit ≡ s .table
 
--- What `apply` promises, for all words w of a table and all bytes of a ticket: it answers r and leaves the words v. The theorems
--- on the call take this as their premise, and proofs/Tied says that it is the contract in the source.
+-- What `apply` promises, for all words w of a table and all bytes of a ticket: it answers r and leaves the
+-- words v. The theorems on the call take this as their premise, and proofs/Tied says that it is the contract
+-- in the source.
 abbrev pub ApplyPromise : (w bytes : List ℕ) → Applied → (v : List ℕ) → Type 0
 ApplyPromise w bytes r v = Answered r v (step product w bytes)
 

@@ -1,4 +1,5 @@
--- Demand 1 of the single call: whatever the bytes and the table, the first refusal whose condition holds, and a refusal moves nothing.
+-- Demand 1 of the single call: whatever the bytes and the table, the first refusal whose condition holds, and
+-- a refusal moves nothing.
 use Prim.Native.Nat.{ℕ}
 use mathlib.Core.Path.{_≡_}
 use mathlib.Core.Bool.{Bool}

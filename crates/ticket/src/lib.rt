@@ -1,12 +1,13 @@
 // One ticket on a lent table: refusals 1 to 11, the insertion or the deletion.
 //
-// The public call is `apply`. It has no `requires`: it says, for all words of a table and all bytes of a ticket, the answer, both counts and
-// every word afterwards; they are those of the plain register. The other functions serve the crates above: `apply_checked` is the same on a
-// table known to be consistent, and `apply_ticket` on a ticket by its fields. The crate assumes nothing.
+// The public call is `apply`. It has no `requires`: it says, for all words of a table and all bytes of a
+// ticket, the answer, both counts and every word afterwards; they are those of the plain register. The other
+// functions serve the crates above: `apply_checked` is the same on a table known to be consistent, and
+// `apply_ticket` on a ticket by its fields. The crate assumes nothing.
 //
-// A ticket that is refused with 4 to 10, or that changes nothing, costs a few lookups: no copy and no pass over the table, but for the check in
-// `apply`. An insertion that puts something in first saves the words of the table's facts, 8 KB of stack, and puts them back if the new graph
-// does not fit, 11.
+// A ticket that is refused with 4 to 10, or that changes nothing, costs a few lookups: no copy and no pass
+// over the table, but for the check in `apply`. An insertion that puts something in first saves the words of
+// the table's facts, 8 KB of stack, and puts them back if the new graph does not fit, 11.
 ghost use Rattle.rdfs.specs.Numbers.{product};
 ghost use Rattle.rdfs.specs.Register.{step, Table};
 ghost use Rattle.ticket_form.specs.Form.{bytesOf};
@@ -16,6 +17,7 @@ use crate::answer::refused;
 use crate::step::run_deletion;
 use crate::step::run_insertion;
 use consistency::check;
+use table::BAD_LENGTH;
 use table::Word;
 use table::count_facts;
 use ticket_form::INSERT;
@@ -27,9 +29,6 @@ use ticket_form::wide;
 
 mod answer;
 mod step;
-
-// Refusal 4: the length of a record.
-pub const BAD_LENGTH: u8 = 4;
 
 // What a ticket answers: 0 or a refusal, and how many facts it added and removed.
 pub struct Applied {
@@ -63,7 +62,8 @@ pub fn apply_ticket(table: &mut [Word], t: Ticket) -> Applied
 // The same, with the ticket as bytes, whatever they are.
 pub fn apply_checked(table: &mut [Word], ticket: &[u8]) -> Applied
     requires { ⌜ Table product (now table) ⌝ }
-    ensures { λ r. ⌜ Answered r (now (table .exit)) (step product (now (table .entry)) (now (ticket .entry))) ⌝ }
+    ensures { λ r. ⌜ Answered r (now (table .exit)) (step product (now (table .entry))
+        (now (ticket .entry))) ⌝ }
 {
     if ticket.len() != RECORD {
         return refused(BAD_LENGTH);
@@ -74,7 +74,8 @@ pub fn apply_checked(table: &mut [Word], ticket: &[u8]) -> Applied
 
 // One ticket, whatever its bytes, on the words of a table, whatever they are.
 pub fn apply(table: &mut [Word], ticket: &[u8]) -> Applied
-    ensures { λ r. ⌜ Answered r (now (table .exit)) (step product (now (table .entry)) (now (ticket .entry))) ⌝ }
+    ensures { λ r. ⌜ Answered r (now (table .exit)) (step product (now (table .entry))
+        (now (ticket .entry))) ⌝ }
 {
     let answer = check(table);
     if answer != 0 {

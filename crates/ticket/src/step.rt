@@ -12,19 +12,15 @@ use clash::clashes;
 use deletion::delete;
 use insertion::Grown;
 use insertion::grow;
+use table::CLASHING;
 use table::MOST;
+use table::TOO_MANY;
+use table::UNKNOWN_PROPERTY;
 use table::Word;
 use table::clear_from;
 use table::copy_words;
 use ticket_form::has_asked;
 use ticket_form::is_unknown_property;
-
-// Refusal 9: a property that the table lacks.
-pub const UNKNOWN_PROPERTY: u8 = 9;
-// Refusal 10: no consistent graph holds the table and the asked facts.
-pub const CLASH: u8 = 10;
-// Refusal 11: more facts than the table has words.
-pub const FULL: u8 = 11;
 
 // What an inner step answers.
 pub enum Step {
@@ -44,8 +40,8 @@ fn put_back(table: &mut [Word], saved: &[Word])
     clear_from(table, n);
 }
 
-// Puts the asked facts in with what follows from them. The words of the table's n facts are saved first and put back where the new graph
-// does not fit.
+// Puts the asked facts in with what follows from them. The words of the table's n facts are saved first and
+// put back where the new graph does not fit.
 fn insert_saving(
     table: &mut [Word],
     saved: &mut [Word],
@@ -56,13 +52,14 @@ fn insert_saving(
     c: Word,
 ) -> Step
     requires { ⌜ Possible (now table) n k a b c × (length (now saved) ≡ n) ⌝ }
-    ensures { λ r. ⌜ Stepped n r (now (table .exit)) (step product (now (table .entry)) (recordOf 1 k a b c)) ⌝ }
+    ensures { λ r. ⌜ Stepped n r (now (table .exit)) (step product (now (table .entry))
+        (recordOf 1 k a b c)) ⌝ }
 {
     copy_words(&table[..n], saved);
     let grown = grow(table, n, k, a, b, c);
     let Grown::Facts(m) = grown else {
         put_back(table, saved);
-        return Step::Refused(FULL);
+        return Step::Refused(TOO_MANY);
     };
     Step::Facts(m)
 }
@@ -70,16 +67,19 @@ fn insert_saving(
 // The same, with room of its own for the saved words.
 fn insert_possible(table: &mut [Word], n: usize, k: Word, a: Word, b: Word, c: Word) -> Step
     requires { ⌜ Possible (now table) n k a b c ⌝ }
-    ensures { λ r. ⌜ Stepped n r (now (table .exit)) (step product (now (table .entry)) (recordOf 1 k a b c)) ⌝ }
+    ensures { λ r. ⌜ Stepped n r (now (table .exit)) (step product (now (table .entry))
+        (recordOf 1 k a b c)) ⌝ }
 {
     let mut saved = [0; MOST];
     insert_saving(table, &mut saved[..n], n, k, a, b, c)
 }
 
-// An insertion. One that is refused with 9 or 10, or whose asked facts are all there, costs a few lookups and saves nothing.
+// An insertion. One that is refused with 9 or 10, or whose asked facts are all there, costs a few lookups and
+// saves nothing.
 pub fn run_insertion(table: &mut [Word], n: usize, k: Word, a: Word, b: Word, c: Word) -> Step
     requires { ⌜ Ready (now table) n 1 k a b c ⌝ }
-    ensures { λ r. ⌜ Stepped n r (now (table .exit)) (step product (now (table .entry)) (recordOf 1 k a b c)) ⌝ }
+    ensures { λ r. ⌜ Stepped n r (now (table .exit)) (step product (now (table .entry))
+        (recordOf 1 k a b c)) ⌝ }
 {
     let unknown = is_unknown_property(table, n, k, a, b, c);
     if unknown {
@@ -91,7 +91,7 @@ pub fn run_insertion(table: &mut [Word], n: usize, k: Word, a: Word, b: Word, c:
     }
     let clash = clashes(table, n, k, a, b, c);
     if clash {
-        return Step::Refused(CLASH);
+        return Step::Refused(CLASHING);
     }
     insert_possible(table, n, k, a, b, c)
 }
@@ -99,7 +99,8 @@ pub fn run_insertion(table: &mut [Word], n: usize, k: Word, a: Word, b: Word, c:
 // A deletion. One whose fact is gone costs a lookup and changes nothing.
 pub fn run_deletion(table: &mut [Word], n: usize, k: Word, a: Word, b: Word, c: Word) -> Step
     requires { ⌜ Ready (now table) n 2 k a b c ⌝ }
-    ensures { λ r. ⌜ Stepped n r (now (table .exit)) (step product (now (table .entry)) (recordOf 2 k a b c)) ⌝ }
+    ensures { λ r. ⌜ Stepped n r (now (table .exit)) (step product (now (table .entry))
+        (recordOf 2 k a b c)) ⌝ }
 {
     let left = delete(table, n, k, a, b, c);
     Step::Facts(left)

@@ -26,7 +26,8 @@ module _ {r x v : ℕ} (w : r ≡ x) where
   wide-within h = le-ltb v x (omega (arith, w))
 
 -- A record is its five bytes.
-pub five-bytes : (l : List ℕ) → length l ≡ 5 → _≡_ {A = List ℕ} (getD l 0 0 ∷ getD l 1 0 ∷ getD l 2 0 ∷ getD l 3 0 ∷ getD l 4 0 ∷ []) l
+pub five-bytes : (l : List ℕ) → length l ≡ 5 → _≡_ {A = List ℕ} (getD l 0 0 ∷ getD l 1 0 ∷ getD l 2 0 ∷ getD l 3 0 ∷ getD l 4
+    0 ∷ []) l
 five-bytes [] e = absurd (omega (arith, e))
 five-bytes (o ∷ []) e = absurd (omega (arith, e))
 five-bytes (o ∷ k ∷ []) e = absurd (omega (arith, e))
@@ -44,7 +45,8 @@ module _ {r n : ℕ} (e : r ≡ n) (b c : ℕ) where
   unused-none h = simp (le-ltb n 2 (omega (arith, e)), le-ltb n 3 (omega (arith, e)))
 
   pub unused-third : r ≤ 2 → (c ≡ 0 → ⊥) → true ≡ unused n b c
-  unused-third h d = sym (or-true (ltb n 2 && not (eqb b 0))) ∙ ap (λ z. (ltb n 2 && not (eqb b 0)) || z) (simp (lt-ltb n 3 (omega (arith, e)), ne-eqb c 0 d))
+  unused-third h d = sym (or-true (ltb n 2 && not (eqb b 0))) ∙ ap (λ z. (ltb n 2 && not (eqb b 0)) || z)
+      (simp (lt-ltb n 3 (omega (arith, e)), ne-eqb c 0 d))
 
   module _ (z : c ≡ 0) where
     pub unused-two : r ≤ 2 → 1 < r → false ≡ unused n b c
@@ -58,4 +60,5 @@ module _ {r n : ℕ} (e : r ≡ n) (b c : ℕ) where
 
 -- An insertion of another kind than 2 asks for one fact.
 pub asked-one : (K : List Fact) (k a b c : ℕ) → (k ≡ 2 → ⊥) → has K (made k a b c) ≡ all (has K) (asked (ticketOf 1 k a b c))
-asked-one K k a b c n = sym (and-true (has K (made k a b c))) ∙ ap (all (has K)) (sym (ap (λ z. cond z (pr a ∷ dom a b ∷ rng a c ∷ []) (made k a b c ∷ [])) (ne-eqb k 2 n)))
+asked-one K k a b c n = sym (and-true (has K (made k a b c)))
+    ∙ ap (all (has K)) (sym (ap (λ z. cond z (pr a ∷ dom a b ∷ rng a c ∷ []) (made k a b c ∷ [])) (ne-eqb k 2 n)))

@@ -7,7 +7,19 @@ use native.Mathlib.Omega.{arith}
 use native.Mathlib.Decide.{ℕ-discrete}
 use lib.Dec.{T, ltb, ltb→lt, lt→ltb}
 use Rattle.rdfs.specs.Numbers.{product, arity}
-use Rattle.rdfs.specs.Tickets.{Ticket, makesProperty, used, badOperation, badKind, badIds, guarded, unusedNotZero, markMisplaced, aboveHighest, ticketOf}
+use Rattle.rdfs.specs.Tickets.{
+  Ticket,
+  makesProperty,
+  used,
+  badOperation,
+  badKind,
+  badIds,
+  guarded,
+  unusedNotZero,
+  markMisplaced,
+  aboveHighest,
+  ticketOf,
+}
 use Rattle.rdfs.specs.Register.{orElse}
 use Rattle.rdfs.proofs.Tests.{Tests, tests-and, tests-or, tests-not, tests-eq, either-or}
 use Rattle.rdfs.proofs.TicketTests.{by-kind, known-kind, given-ids}
@@ -36,7 +48,8 @@ pub form-refused : (t : Ticket) (n rest : ℕ) → formRefusal t ≡ n → (n �
     → orElse (badOperation t) 5 (orElse (badKind t) 6 (orElse (badIds (product .top) t) 7 (orElse (guarded t) 8 rest))) ≡ n
 form-refused t n rest e d = go (badOperation t) (badKind t) (badIds (product .top) t) (guarded t) e
   where
-    go : (p q r s : Bool) → orElse p 5 (orElse q 6 (orElse r 7 (orElse s 8 0))) ≡ n → orElse p 5 (orElse q 6 (orElse r 7 (orElse s 8 rest))) ≡ n
+    go : (p q r s : Bool) → orElse p 5 (orElse q 6 (orElse r 7 (orElse s 8 0))) ≡ n
+        → orElse p 5 (orElse q 6 (orElse r 7 (orElse s 8 rest))) ≡ n
     go true q r s e = e
     go false true r s e = e
     go false false true s e = e
@@ -58,10 +71,12 @@ module _ (o k a b c : ℕ) (e : formRefusal (ticketOf o k a b c) ≡ 0) where
 
   -- The ids that are not used are 0.
   tests-unused : Tests (unusedNotZero given) (((used given < 2) × (b ≡ 0 → ⊥)) ⊎ ((used given < 3) × (c ≡ 0 → ⊥)))
-  tests-unused = tests-or (tests-and (tests-less (used given) 2) (tests-not (tests-eq b 0))) (tests-and (tests-less (used given) 3) (tests-not (tests-eq c 0)))
+  tests-unused = tests-or (tests-and (tests-less (used given) 2) (tests-not (tests-eq b 0)))
+      (tests-and (tests-less (used given) 3) (tests-not (tests-eq c 0)))
 
   none-unused : ((used given < 2) × (b ≡ 0 → ⊥)) ⊎ ((used given < 3) × (c ≡ 0 → ⊥)) → ⊥
-  none-unused h = p .ids (either-or (unusedNotZero given) (markMisplaced given || aboveHighest (product .top) given) (inl (tests-unused .complete h)))
+  none-unused h = p .ids (either-or (unusedNotZero given) (markMisplaced given || aboveHighest (product .top) given)
+      (inl (tests-unused .complete h)))
 
   second-zero : used given < 2 → b ≡ 0
   second-zero h = elim (ℕ-discrete b 0) [ yes z ↦ z | no n ↦ absurd (none-unused (inl (h, n))) ]
@@ -72,7 +87,8 @@ module _ (o k a b c : ℕ) (e : formRefusal (ticketOf o k a b c) ≡ 0) where
   -- Where the ticket makes no property, it names a fact.
   pub formed-shaped : makesProperty given ≡ false → Shaped k b c
   formed-shaped m =
-      let few : (k ≤ 4 → arity k < 2) × (k ≤ 9 → arity k < 3) × (1 ≤ k) × (k ≤ 10) = by-kind (λ k. (k ≤ 4 → arity k < 2) × (k ≤ 9 → arity k < 3) × (1 ≤ k) × (k ≤ 10)) k (known-kind given (p .kind))
+      let few : (k ≤ 4 → arity k < 2) × (k ≤ 9 → arity k < 3) × (1 ≤ k) × (k ≤ 10) =
+      by-kind (λ k. (k ≤ 4 → arity k < 2) × (k ≤ 9 → arity k < 3) × (1 ≤ k) × (k ≤ 10)) k (known-kind given (p .kind))
       (omega arith) (omega arith) (omega arith) (omega arith) (omega arith) (omega arith) (omega arith) (omega arith) in
       let own : used given ≡ arity k = simp m in
       record {

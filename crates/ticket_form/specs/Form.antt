@@ -22,7 +22,8 @@ bytesOf t = recordOf (t .operation) (t .kind) (t .a) (t .b) (t .c)
 
 -- Refusals 5 to 8, or 0.
 abbrev pub formRefusal : defs.Ticket → ℕ
-formRefusal t = orElse (defs.badOperation t) 5 (orElse (defs.badKind t) 6 (orElse (defs.badIds (product .top) t) 7 (orElse (defs.guarded t) 8 0)))
+formRefusal t = orElse (defs.badOperation t) 5 (orElse (defs.badKind t) 6
+    (orElse (defs.badIds (product .top) t) 7 (orElse (defs.guarded t) 8 0)))
 
 -- A table with n facts, and a ticket past the first eight refusals.
 pub record Asked (t : List ℕ) (n o k a b c : ℕ) : Type 0 where

@@ -1,8 +1,8 @@
 // The form of a ticket, and the refusals before it is run: 5 to 8 by its fields, 9 by a table's facts.
 //
 // The functions serve the crates above; none is a call of a host. `form_refusal` and `wide` have no
-// `requires`; `decode` asks for the length of a record, `is_unknown_property` and `has_asked` for a table with
-// the number of its facts and a ticket past refusal 8. The crate assumes nothing.
+// `requires`; `decode` asks for the length of a record, `is_unknown_property` and `has_asked` for a table
+// with the number of its facts and a ticket past refusal 8. The crate assumes nothing.
 ghost use mathlib.Core.Path.{_≡_};
 ghost use lib.Dec.{eqb};
 ghost use lib.ListN.{length};
@@ -10,7 +10,11 @@ ghost use Rattle.rdfs.specs.Numbers.{recordLength};
 ghost use Rattle.rdfs.specs.Tickets.{badOperation, badKind, guarded};
 ghost use Rattle.ticket_form.specs.Form.{sense, bytesOf, formRefusal};
 use crate::ids::has_bad_ids;
+use table::BAD_IDS;
+use table::BAD_KIND;
+use table::BAD_OPERATION;
 use table::CLASS;
+use table::GUARDED;
 use table::INDIVIDUAL;
 use table::LITERAL;
 use table::MEMBER;
@@ -34,15 +38,6 @@ pub const RECORD: usize = 5;
 pub const INSERT: u8 = 1;
 
 pub const DELETE: u8 = 2;
-
-// Refusal 5: neither an insertion nor a deletion.
-pub const BAD_OPERATION: u8 = 5;
-// Refusal 6: a kind that no ticket has.
-pub const BAD_KIND: u8 = 6;
-// Refusal 7: an unused byte not 0, the mark misplaced, an id above the highest.
-pub const BAD_IDS: u8 = 7;
-// Refusal 8: a deletion of Cl(0), or of CSub or CI with b = 0.
-pub const GUARDED: u8 = 8;
 
 // Operation 1 inserts and 2 deletes; kind and ids as in document 01.
 pub struct Ticket {

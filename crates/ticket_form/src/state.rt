@@ -25,7 +25,8 @@ fn lacks_property(t: &[Word], n: usize, x: Word) -> bool
 // x or y is no property of the table.
 fn lacks_either(t: &[Word], n: usize, x: Word, y: Word) -> bool
     requires { ⌜ Counted (now t) n × Id x × Id y ⌝ }
-    ensures { λ r. ⌜ r ≡ (not (has (factsOf (now (t .entry))) (pr x)) || not (has (factsOf (now (t .entry))) (pr y))) ⌝ }
+    ensures { λ r. ⌜ r ≡ (not (has (factsOf (now (t .entry))) (pr x)) || not (has (factsOf (now (t .entry)))
+        (pr y))) ⌝ }
 {
     let first = lacks_property(t, n, x);
     if first {

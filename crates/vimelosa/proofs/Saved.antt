@@ -36,7 +36,8 @@ else-small false n rest p q = q
 accepted-passes : (n rest : ℕ) → n < sixteenBits → answerIn (refusedElse n rest) ≡ 0 → (n ≡ 0) × (refusedElse n rest ≡ rest)
 accepted-passes n rest h e = elim (ℕ-discrete n 0) [
   | yes z ↦ (z, passed-is n rest z)
-  | no q ↦ let own : n ≡ answerIn (packed n 0 0 0) = omega (arith, h) in absurd (q (own ∙ (ap answerIn (sym (refused-is n rest q)) ∙ e)))
+  | no q ↦ let own : n ≡ answerIn (packed n 0 0 0) = omega (arith, h) in
+      absurd (q (own ∙ (ap answerIn (sym (refused-is n rest q)) ∙ e)))
 ]
 
 packed-answer : (a r l : ℕ) → answerIn (packed 0 a r l) ≡ 0
@@ -72,23 +73,28 @@ module _ (image ticket output : List ℕ) where
   read-small : readAnswer room image < sixteenBits
   read-small =
       let l : List ℕ = wordsOf product form image in
-      else-small (malformed product form image) 12 _ (lit< tt) (else-small (ltb (product .most) (length l)) 11 _ (lit< tt) (else-small (inconsistent product l) 3 0 (lit< tt) (lit< tt)))
+      else-small (malformed product form image) 12 _ (lit< tt) (else-small (ltb (product .most) (length l)) 11 _ (lit< tt)
+      (else-small (inconsistent product l) 3 0 (lit< tt) (lit< tt)))
 
   -- 1 to 3 of a table, then others.
   table-small : (t : List ℕ) (rest : ℕ) → rest < sixteenBits → tableRefusal product t rest < sixteenBits
-  table-small t rest h = else-small (badSize product t) 1 _ (lit< tt) (else-small (badLayout product t) 2 _ (lit< tt) (else-small (inconsistent product t) 3 rest (lit< tt) h))
+  table-small t rest h = else-small (badSize product t) 1 _ (lit< tt) (else-small (badLayout product t) 2 _ (lit< tt)
+      (else-small (inconsistent product t) 3 rest (lit< tt) h))
 
   number-small : s .number < sixteenBits
   unfolding applied
   number-small =
       let t : Ticket = decoded ticket in
       subst (λ n. n < sixteenBits) (sym (step-number product w ticket)) (table-small w _
-      (else-small (badLength ticket) 4 _ (lit< tt) (else-small (badOperation t) 5 _ (lit< tt) (else-small (badKind t) 6 _ (lit< tt) (else-small (badIds (product .top) t) 7 _ (lit< tt)
-      (else-small (guarded t) 8 _ (lit< tt) (else-small (unknownProperty (facts product w) t) 9 _ (lit< tt) (else-small (clashing (new product w ticket) t) 10 _ (lit< tt)
+      (else-small (badLength ticket) 4 _ (lit< tt) (else-small (badOperation t) 5 _ (lit< tt) (else-small (badKind t) 6 _
+      (lit< tt) (else-small (badIds (product .top) t) 7 _ (lit< tt)
+      (else-small (guarded t) 8 _ (lit< tt) (else-small (unknownProperty (facts product w) t) 9 _ (lit< tt)
+      (else-small (clashing (new product w ticket) t) 10 _ (lit< tt)
       (else-small (tooMany product w (new product w ticket)) 11 0 (lit< tt) (lit< tt))))))))))
 
   write-small : writeAnswer (s .table) output < sixteenBits
-  write-small = table-small (s .table) _ (else-small (ltb (length output) (length (tableImage (s .table)))) 13 0 (lit< tt) (lit< tt))
+  write-small =
+      table-small (s .table) _ (else-small (ltb (length output) (length (tableImage (s .table)))) 13 0 (lit< tt) (lit< tt))
 
   pub accepted : answerIn (hostAnswer image ticket output) ≡ 0 → Accepted
   unfolding hostAnswer
@@ -112,7 +118,9 @@ module _ (image ticket output : List ℕ) where
         let long : length w ≡ product .most = read-length room image in
         let ws : List ℕ = words product (new product w ticket) in
         let l = accepted-leaves product w ticket (a .number) in
-        let fits : length ws ≤ length w = room-fits product w (new product w ticket) (passed product w ticket (sym (step-number product w ticket) ∙ a .number) .room) in
+        let fits : length ws ≤ length w =
+        room-fits product w (new product w ticket) (passed product w ticket (sym (step-number product w ticket)
+        ∙ a .number) .room) in
         let laid = read-table image 0 (sym (a .read)) refl refl .laid in (
           omega (arith, l .added, filter-split (λ x. not (member (filled w) x)) ws, fits, long),
           omega (arith, l .removed, filter-split (λ x. not (member ws x)) (filled w), filled-within product w laid, long),

@@ -22,12 +22,14 @@ use Rattle.vimelosa.proofs.Host.{applied-table}
 use Rattle.vimelosa.proofs.Saved.{accepted, left-length, saved-image, refused}
 
 -- Reading: 12, 11 or 3. Refusal 1 cannot come, for the room is the call's own.
-pub read-refusals : (image : List ℕ) → readAnswer room image ≡ imageRefusal image (product .most) (orElse (inconsistent product (wordsOf product form image)) 3 0)
+pub read-refusals : (image : List ℕ) → readAnswer room image ≡ imageRefusal image (product .most)
+    (orElse (inconsistent product (wordsOf product form image)) 3 0)
 read-refusals image = refl
 
 -- Writing: 13 only, exactly if the output is shorter than the image of what the ticket left.
 pub write-refusals : (image ticket output : List ℕ) → readAnswer room image ≡ 0
-    → let left : List ℕ = applied image ticket .table in writeAnswer left output ≡ orElse (ltb (length output) (length (tableImage left))) 13 0
+    → let left : List ℕ = applied image ticket .table in
+    writeAnswer left output ≡ orElse (ltb (length output) (length (tableImage left))) 13 0
 write-refusals image ticket output e =
     let left : List ℕ = applied image ticket .table in
     table-passes product left (applied-table image ticket e) (orElse (ltb (length output) (length (tableImage left))) 13 0)

@@ -16,7 +16,8 @@ sixteenBits = 65536
 
 -- Four numbers of 16 bits each, lowest first.
 abbrev pub packed : ℕ → ℕ → ℕ → ℕ → ℕ
-packed answer added removed length = answer + sixteenBits * (added + sixteenBits * (removed + sixteenBits * length))
+packed answer added removed length =
+    answer + sixteenBits * (added + sixteenBits * (removed + sixteenBits * length))
 
 -- The answer, the facts added, the facts removed and the image's length in such a number.
 abbrev pub answerIn : ℕ → ℕ
@@ -43,17 +44,20 @@ room = replicate (product .most) 0
 unfoldable pub applied : List ℕ → List ℕ → Answer
 applied image ticket = step product (readWords room image) ticket
 
--- The refusals of reading, of the ticket and of writing the words that it left; then the counts and the image's length.
+-- The refusals of reading, of the ticket and of writing the words that it left; then the counts and the
+-- image's length.
 unfoldable pub hostAnswer : List ℕ → List ℕ → List ℕ → ℕ
 hostAnswer image ticket output =
     let s : Answer = applied image ticket in
-    refusedElse (readAnswer room image) (refusedElse (s .number) (refusedElse (writeAnswer (s .table) output) (packed 0 (s .added) (s .removed) (writeLength (s .table) output))))
+    refusedElse (readAnswer room image) (refusedElse (s .number) (refusedElse (writeAnswer (s .table) output)
+    (packed 0 (s .added) (s .removed) (writeLength (s .table) output))))
 
 -- What writing leaves; the bytes as they were if reading or the ticket is refused.
 unfoldable pub hostOutput : List ℕ → List ℕ → List ℕ → List ℕ
 hostOutput image ticket output =
     let s : Answer = applied image ticket in
-    cond (eqb (readAnswer room image) 0) (cond (eqb (s .number) 0) (writeBytes (s .table) output) output) output
+    cond (eqb (readAnswer room image) 0) (cond (eqb (s .number) 0) (writeBytes (s .table) output) output)
+    output
 
 -- The promise of the call, for all bytes of the three: the number r that it answers, and the bytes v that it
 -- leaves in the output.

@@ -1,9 +1,11 @@
 // The host's call across the C interface: an image, a ticket and an output; read, apply, write.
 //
-// The public call is `vimelosa_apply`. It has no `requires`: it says, for all bytes of the three, the number it answers and every byte of the
-// output afterwards, through the definitions of reading, of the ticket and of writing. The crate assumes nothing.
+// The public call is `vimelosa_apply`. It has no `requires`: it says, for all bytes of the three, the number
+// it answers and every byte of the output afterwards, through the definitions of reading, of the ticket and
+// of writing. The crate assumes nothing.
 //
-// The table that the image is read into is the call's own: 8 KB of stack, beside those of the steps. It is checked once, by reading.
+// The table that the image is read into is the call's own: 8 KB of stack, beside those of the steps. It is
+// checked once, by reading.
 ghost use mathlib.Core.Path.{_≡_};
 ghost use Rattle.vimelosa.specs.Host.{packed, HostPromise};
 use image::read;
@@ -22,8 +24,9 @@ fn pack(answer: u8, added: u16, removed: u16, length: u16) -> u64
     answer as u64 + FIELD * (added as u64 + FIELD * (removed as u64 + FIELD * length as u64))
 }
 
-// Reads the image into 2,048 words, applies the ticket to them, writes the image of what it left. Answers the number, the facts added, the
-// facts removed and the image's length. Refused as the steps refuse, in their order, the last three are 0 and the output is as it was.
+// Reads the image into 2,048 words, applies the ticket to them, writes the image of what it left. Answers the
+// number, the facts added, the facts removed and the image's length. Refused as the steps refuse, in their
+// order, the last three are 0 and the output is as it was.
 #[no_mangle]
 pub extern "C" fn vimelosa_apply(image: &[u8], ticket: &[u8], output: &mut [u8]) -> u64
     ensures { λ r. ⌜ HostPromise (now (image .entry)) (now (ticket .entry)) (now (output .entry)) r

@@ -10,7 +10,8 @@ use Rattle.rdfs.specs.Insertion.{closure, insertion}
 use Rattle.rdfs.specs.Deletion.{goes, deletion}
 use Rattle.rdfs.specs.Register.{step, run, register, Answer}
 
--- A part of the database of the paper's Figs. 1 and 2, ticket by ticket, and the same with the class tree drawn last, after the members.
+-- A part of the database of the paper's Figs. 1 and 2, ticket by ticket, and the same with the class tree drawn last, after the
+-- members.
 abbrev treeFirst : List ℕ
 treeFirst =
     1 ∷ 5 ∷ 3 ∷ 2 ∷ 0 ∷
@@ -96,17 +97,31 @@ single =
 
 abbrev answers : List (List ℕ)
 answers =
-    (0 ∷ 0 ∷ 10 ∷ []) ∷ (0 ∷ 0 ∷ 9 ∷ []) ∷ (0 ∷ 0 ∷ 5 ∷ []) ∷ (0 ∷ 0 ∷ 6 ∷ []) ∷ (0 ∷ 0 ∷ 3 ∷ []) ∷ (0 ∷ 0 ∷ 2 ∷ []) ∷ (0 ∷ 0 ∷ 1 ∷ []) ∷ (0 ∷ 0 ∷ 3 ∷ []) ∷ (0 ∷ 0 ∷ 5 ∷ []) ∷ (0 ∷ 0 ∷ 4 ∷ []) ∷ (0 ∷ 0 ∷ 2 ∷ []) ∷ (0 ∷ 0 ∷ 0 ∷ []) ∷ (10 ∷ 0 ∷ 0 ∷ []) ∷ (11 ∷ 0 ∷ 0 ∷ []) ∷ []
+    (0 ∷ 0 ∷ 10 ∷ []) ∷ (0 ∷ 0 ∷ 9 ∷ []) ∷ (0 ∷ 0 ∷ 5 ∷ []) ∷ (0 ∷ 0 ∷ 6 ∷ []) ∷ (0 ∷ 0 ∷ 3 ∷ []) ∷ (0 ∷ 0 ∷ 2 ∷ []) ∷
+    (0 ∷ 0 ∷ 1 ∷ []) ∷ (0 ∷ 0 ∷ 3 ∷ []) ∷ (0 ∷ 0 ∷ 5 ∷ []) ∷ (0 ∷ 0 ∷ 4 ∷ []) ∷ (0 ∷ 0 ∷ 2 ∷ []) ∷ (0 ∷ 0 ∷ 0 ∷ []) ∷
+    (10 ∷ 0 ∷ 0 ∷ []) ∷ (11 ∷ 0 ∷ 0 ∷ []) ∷ []
 
 pub worked :
-    (register product (fresh product 33) treeFirst ≡ record { numbers = 0 ∷ 0 ∷ 0 ∷ 0 ∷ 0 ∷ 0 ∷ 0 ∷ []; counts = 5 ∷ 0 ∷ 4 ∷ 0 ∷ 5 ∷ 0 ∷ 3 ∷ 0 ∷ 3 ∷ 0 ∷ 1 ∷ 0 ∷ 11 ∷ 0 ∷ []; table = figure })
-    × (register product (fresh product 33) treeLast ≡ record { numbers = 0 ∷ 0 ∷ 0 ∷ 0 ∷ 0 ∷ 0 ∷ 0 ∷ []; counts = 7 ∷ 0 ∷ 7 ∷ 0 ∷ 7 ∷ 0 ∷ 4 ∷ 0 ∷ 3 ∷ 0 ∷ 2 ∷ 0 ∷ 2 ∷ 0 ∷ []; table = figure })
+    (register product (fresh product 33) treeFirst ≡ record {
+      numbers = 0 ∷ 0 ∷ 0 ∷ 0 ∷ 0 ∷ 0 ∷ 0 ∷ [];
+      counts = 5 ∷ 0 ∷ 4 ∷ 0 ∷ 5 ∷ 0 ∷ 3 ∷ 0 ∷ 3 ∷ 0 ∷ 1 ∷ 0 ∷ 11 ∷ 0 ∷ [];
+      table = figure;
+    })
+    × (register product (fresh product 33) treeLast ≡ record {
+      numbers = 0 ∷ 0 ∷ 0 ∷ 0 ∷ 0 ∷ 0 ∷ 0 ∷ [];
+      counts = 7 ∷ 0 ∷ 7 ∷ 0 ∷ 7 ∷ 0 ∷ 4 ∷ 0 ∷ 3 ∷ 0 ∷ 2 ∷ 0 ∷ 2 ∷ 0 ∷ [];
+      table = figure;
+    })
     × (map onFigure single ≡ answers)
     × (register product (padded 44 figure) literalGone .counts ≡ 3 ∷ 0 ∷ 2 ∷ 0 ∷ 0 ∷ 2 ∷ [])
     × (register product (padded 44 figure) chainCut .counts ≡ 3 ∷ 0 ∷ 3 ∷ 0 ∷ 0 ∷ 2 ∷ [])
-    × (register product (fresh product 12) rangeOfObject .table ≡ 0x01000000 ∷ 0x01020000 ∷ 0x02030000 ∷ 0x03040000 ∷ 0x03050000 ∷ 0x05020000 ∷ 0x07030000 ∷ 0x08030200 ∷ 0x09040000 ∷ 0x09050000 ∷ 0x09050200 ∷ 0x0a040503 ∷ [])
-    × (register product (fresh product 18) bothLinks .table ≡ 0x01000000 ∷ 0x01040000 ∷ 0x01050000 ∷ 0x01060000 ∷ 0x01070000 ∷ 0x02020000 ∷ 0x02030000 ∷ 0x05040000 ∷ 0x05050000 ∷ 0x05050400 ∷ 0x05060000 ∷ 0x05070000 ∷ 0x05070600 ∷ 0x06030200 ∷ 0x07020400 ∷ 0x07030500 ∷ 0x08020600 ∷ 0x08030700 ∷ [])
+    × (register product (fresh product 12) rangeOfObject .table ≡ 0x01000000 ∷ 0x01020000 ∷ 0x02030000 ∷ 0x03040000 ∷ 0x03050000 ∷
+    0x05020000 ∷ 0x07030000 ∷ 0x08030200 ∷ 0x09040000 ∷ 0x09050000 ∷ 0x09050200 ∷ 0x0a040503 ∷ [])
+    × (register product (fresh product 18) bothLinks .table ≡ 0x01000000 ∷ 0x01040000 ∷ 0x01050000 ∷ 0x01060000 ∷ 0x01070000 ∷
+    0x02020000 ∷ 0x02030000 ∷ 0x05040000 ∷ 0x05050000 ∷ 0x05050400 ∷ 0x05060000 ∷ 0x05070000 ∷ 0x05070600 ∷ 0x06030200 ∷
+    0x07020400 ∷ 0x07030500 ∷ 0x08020600 ∷ 0x08030700 ∷ [])
     × (register product (fresh product 32) cycleThroughBoth .numbers ≡ 0 ∷ 0 ∷ 0 ∷ 0 ∷ 10 ∷ [])
     × (register product (fresh product 4) (1 ∷ 1 ∷ 2 ∷ 0 ∷ 0 ∷ 1 ∷ 1 ∷ 3 ∷ []) .numbers ≡ 0 ∷ 4 ∷ [])
-unfolding by18 by20 by22 by23 by24 by25 by26 by27 needs bars unequal existsFor consistent? closure insertion goes deletion step run register
+unfolding by18 by20 by22 by23 by24 by25 by26 by27 needs bars unequal existsFor consistent? closure insertion goes deletion step
+    run register
 worked = (refl, refl, refl, refl, refl, refl, refl, refl, refl)

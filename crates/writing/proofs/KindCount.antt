@@ -22,7 +22,8 @@ use Rattle.writing.specs.Writing.{Writable}
 use Rattle.contents.proofs.FactsRead.{fact-kind}
 use Rattle.contents.proofs.Grouped.{kind-more, kind-skip, word-within}
 
-kind-between : (k : ℕ) (l : List ℕ) → ((w : ℕ) → w ∈ l → T (isFact product w)) → below l (wordOf (k + 1) 0 0 0) ≡ below l (wordOf k 0 0 0) + length (ofKind product k l)
+kind-between : (k : ℕ) (l : List ℕ) → ((w : ℕ) → w ∈ l → T (isFact product w)) → below l (wordOf (k + 1) 0 0 0) ≡ below l
+    (wordOf k 0 0 0) + length (ofKind product k l)
 kind-between k [] h = refl
 kind-between k (w ∷ l) h =
     let rest = kind-between k l (λ x i. h x (there i)) in
@@ -50,7 +51,12 @@ module _ (t : List ℕ) (n : ℕ) (c : Writable t n) where
   pub kind-first : 0 ≡ below (take n t) (wordOf 1 0 0 0)
   kind-first =
       let same : take n t ≡ filled t = counted-first (c .counted) in
-      sym (ap (λ m. below m (wordOf 1 0 0 0)) same ∙ below-none (wordOf 1 0 0 0) (filled t) (λ w i. omega (arith, word-within product product-sound w (laid-is-fact product t (c .counted .laid) w i) .0, fact-kind (fact (product .base) w) .0)))
+      sym (ap (λ m. below m (wordOf 1 0 0 0)) same ∙ below-none (wordOf 1 0 0 0) (filled t)
+      (λ w i. omega (
+        arith,
+        word-within product product-sound w (laid-is-fact product t (c .counted .laid) w i) .0,
+        fact-kind (fact (product .base) w) .0,
+      )))
 
   -- Two searches, for the first word of kind k and the first of the next.
   module _ (k from to : ℕ) (f : from ≡ below (take n t) (wordOf k 0 0 0)) (g : to ≡ below (take n t) (wordOf (k + 1) 0 0 0)) where
@@ -60,12 +66,21 @@ module _ (t : List ℕ) (n : ℕ) (c : Writable t n) where
         let same : take n t ≡ l = counted-first (c .counted) in
         let low : from ≡ below l (wordOf k 0 0 0) = f ∙ ap (λ m. below m (wordOf k 0 0 0)) same in
         let high : to ≡ below l (wordOf (k + 1) 0 0 0) = g ∙ ap (λ m. below m (wordOf (k + 1) 0 0 0)) same in
-        high ∙ (kind-between k l (laid-is-fact product t (c .counted .laid)) ∙ ap (λ m. m + length (ofKind product k l)) (sym low))
+        high ∙ (kind-between k l (laid-is-fact product t (c .counted .laid)) ∙ ap (λ m. m + length (ofKind product k l))
+        (sym low))
 
     pub kind-order : from ≤ to
     kind-order = omega (arith, found)
 
     pub kind-found : (to - from ≡ length (ofKind product k (filled t))) × (to - from ≤ product .most)
     kind-found =
-        let exact : to - from ≡ length (ofKind product k (filled t)) = omega (arith, found) in
-        (exact, omega (arith, exact, filter-split (λ w. eqb (factKind product w) k) (filled t), filled-within product t (c .counted .laid), c .few))
+        let exact : to - from ≡ length (ofKind product k (filled t)) = omega (arith, found) in (
+          exact,
+          omega (
+            arith,
+            exact,
+            filter-split (λ w. eqb (factKind product w) k) (filled t),
+            filled-within product t (c .counted .laid),
+            c .few,
+          ),
+        )

@@ -30,7 +30,8 @@ module _ (w : ℕ) (f : T (isFact product w)) where
 
   -- As many ids as the kind has.
   pub fact-bytes : (n : ℕ) → arity (kindOf w) ≡ n → idBytes product form w ≡ take n (firstOf w ∷ secondOf w ∷ thirdOf w ∷ [])
-  fact-bytes n e = single (ids (fact (product .base) w)) ∙ (word-kind .has-ids (firstOf w) (secondOf w) (thirdOf w) ∙ ap (λ m. take m (firstOf w ∷ secondOf w ∷ thirdOf w ∷ [])) e)
+  fact-bytes n e = single (ids (fact (product .base) w)) ∙ (word-kind .has-ids (firstOf w) (secondOf w) (thirdOf w)
+      ∙ ap (λ m. take m (firstOf w ∷ secondOf w ∷ thirdOf w ∷ [])) e)
 
   pub fact-size-is : length (idBytes product form w) ≡ arity (kindOf w)
   fact-size-is = ap length (fact-bytes (arity (kindOf w)) refl) ∙ few (arity (kindOf w)) (word-kind .few)
@@ -58,11 +59,15 @@ module _ (w : ℕ) (f : T (isFact product w)) where
 
     pub put-two : arity (kindOf w) ≡ 2 → (a b : ℕ) → a ≡ firstOf w → b ≡ secondOf w → Put 2 (set (set out at a) (at + 1) b)
     put-two e a b p q =
-        let is : idBytes product form w ≡ a ∷ b ∷ [] = fact-bytes 2 e ∙ (ap (λ x. x ∷ secondOf w ∷ []) (sym p) ∙ ap (λ x. a ∷ x ∷ []) (sym q)) in
+        let is : idBytes product form w ≡ a ∷ b ∷ [] =
+        fact-bytes 2 e ∙ (ap (λ x. x ∷ secondOf w ∷ []) (sym p) ∙ ap (λ x. a ∷ x ∷ []) (sym q)) in
         done 2 (a ∷ b ∷ []) (set (set out at a) (at + 1) b) is refl (two-stores out at a b (omega (arith, room, ap length is)))
 
-    pub put-three : arity (kindOf w) ≡ 3 → (a b c : ℕ) → a ≡ firstOf w → b ≡ secondOf w → c ≡ thirdOf w → Put 3 (set (set (set out at a) (at + 1) b) (at + 2) c)
+    pub put-three : arity (kindOf w) ≡ 3 → (a b c : ℕ) → a ≡ firstOf w → b ≡ secondOf w → c ≡ thirdOf w
+        → Put 3 (set (set (set out at a) (at + 1) b) (at + 2) c)
     put-three e a b c p q r =
         let is : idBytes product form w ≡ a ∷ b ∷ c ∷ [] =
-        fact-bytes 3 e ∙ (ap (λ x. x ∷ secondOf w ∷ thirdOf w ∷ []) (sym p) ∙ (ap (λ x. a ∷ x ∷ thirdOf w ∷ []) (sym q) ∙ ap (λ x. a ∷ b ∷ x ∷ []) (sym r))) in
-        done 3 (a ∷ b ∷ c ∷ []) (set (set (set out at a) (at + 1) b) (at + 2) c) is refl (three-stores out at a b c (omega (arith, room, ap length is)))
+        fact-bytes 3 e ∙ (ap (λ x. x ∷ secondOf w ∷ thirdOf w ∷ []) (sym p) ∙ (ap (λ x. a ∷ x ∷ thirdOf w ∷ []) (sym q)
+        ∙ ap (λ x. a ∷ b ∷ x ∷ []) (sym r))) in
+        done 3 (a ∷ b ∷ c ∷ []) (set (set (set out at a) (at + 1) b) (at + 2) c) is refl (three-stores out at a b c
+        (omega (arith, room, ap length is)))

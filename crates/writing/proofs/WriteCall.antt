@@ -28,8 +28,11 @@ table-writable h n q = record { counted = record { laid = h .laid; size = q }; f
 module _ (t out : List ℕ) where
   refused : (n : ℕ) → n ≡ writeAnswer t out → (n ≡ 0 → ⊥) → WritePromise t out (record { answer = n; length = 0 }) out
   refused n e h =
-      let no : eqb (writeAnswer t out) 0 ≡ false = ne-eqb (writeAnswer t out) 0 (λ z. h (e ∙ z)) in
-      (e, sym (ap (λ b. cond b (length (tableImage t)) 0) no), sym (ap (λ b. cond b (tableImage t ++ drop (length (tableImage t)) out) out) no))
+      let no : eqb (writeAnswer t out) 0 ≡ false = ne-eqb (writeAnswer t out) 0 (λ z. h (e ∙ z)) in (
+        e,
+        sym (ap (λ b. cond b (length (tableImage t)) 0) no),
+        sym (ap (λ b. cond b (tableImage t ++ drop (length (tableImage t)) out) out) no),
+      )
 
   -- 13, or 0.
   abbrev last : ℕ
@@ -43,15 +46,21 @@ module _ (t out : List ℕ) where
   module _ (consistent : Table product t) where
     -- 13.
     pub write-short : length out < length (tableImage t) → WritePromise t out (record { answer = 13; length = 0 }) out
-    write-short h = refused 13 (sym (table-passes product t consistent last ∙ ap (λ b. orElse b 13 0) (lt-ltb (length out) (length (tableImage t)) h))) (omega arith)
+    write-short h = refused 13 (sym (table-passes product t consistent last
+        ∙ ap (λ b. orElse b 13 0) (lt-ltb (length out) (length (tableImage t)) h))) (omega arith)
 
     pub write-done : length (tableImage t) ≤ length out → (size : ℕ) → size ≡ length (tableImage t)
         → (out′ : List ℕ) → out′ ≡ tableImage t ++ drop (length (tableImage t)) out
         → WritePromise t out (record { answer = 0; length = size }) out′
     write-done h size s out′ q =
-        let zero-answer : writeAnswer t out ≡ 0 = table-passes product t consistent last ∙ ap (λ b. orElse b 13 0) (le-ltb (length out) (length (tableImage t)) h) in
-        let yes-zero : eqb (writeAnswer t out) 0 ≡ true = eq-eqb (writeAnswer t out) 0 zero-answer in
-        (sym zero-answer, s ∙ sym (ap (λ b. cond b (length (tableImage t)) 0) yes-zero), q ∙ sym (ap (λ b. cond b (tableImage t ++ drop (length (tableImage t)) out) out) yes-zero))
+        let zero-answer : writeAnswer t out ≡ 0 =
+        table-passes product t consistent last ∙ ap (λ b. orElse b 13 0) (le-ltb (length out) (length (tableImage t)) h) in
+        let yes-zero : eqb (writeAnswer t out) 0 ≡ true = eq-eqb (writeAnswer t out) 0 zero-answer in (
+          sym zero-answer,
+          s ∙ sym (ap (λ b. cond b (length (tableImage t)) 0) yes-zero),
+          q
+              ∙ sym (ap (λ b. cond b (tableImage t ++ drop (length (tableImage t)) out) out) yes-zero),
+        )
 
   -- Not refused: the table is consistent and the output is long enough.
   pub write-parts : writeAnswer t out ≡ 0 → (0 ≡ tableRefusal product t 0) × (length (tableImage t) ≤ length out)
@@ -71,18 +80,23 @@ module _ (t out : List ℕ) where
       ap (λ b. take (cond b (length image) 0) (cond b (image ++ drop (length image) out) out)) yes-zero
       ∙ take-at image (drop (length image) out) (length image) refl
 
--- The bytes after the contents are stored: those before the first body are the image's, and those after the image are as they were.
-module _ (t : List ℕ) (n : ℕ) (c : Writable t n) (out mid : List ℕ) (e : mid ≡ take (firstBody form) (tableImage t) ++ drop (firstBody form) out) where
+-- The bytes after the contents are stored: those before the first body are the image's, and those after the image are as they
+-- were.
+module _ (t : List ℕ) (n : ℕ) (c : Writable t n) (out mid : List ℕ) (e : mid ≡ take (firstBody form) (tableImage t) ++ drop
+    (firstBody form) out) where
   long : length (take (firstBody form) (tableImage t)) ≡ firstBody form
   long = length-take-le (firstBody form) (tableImage t) (omega (arith, image-whole t n c))
 
   pub stored-first : take (firstBody form) mid ≡ take (firstBody form) (tableImage t)
-  stored-first = ap (take (firstBody form)) e ∙ take-at (take (firstBody form) (tableImage t)) (drop (firstBody form) out) (firstBody form) long
+  stored-first = ap (take (firstBody form)) e ∙ take-at (take (firstBody form) (tableImage t)) (drop (firstBody form) out)
+      (firstBody form) long
 
   pub stored-after : drop (length (tableImage t)) mid ≡ drop (length (tableImage t)) out
   stored-after =
       let m : ℕ = length (concatMap (idBytes product form) (filled t)) in
       let size : length (tableImage t) ≡ firstBody form + m = image-whole t n c in
       let place : firstBody form + m ≡ length (take (firstBody form) (tableImage t)) + m = omega (arith, long) in
-      ap (λ k. drop k mid) size ∙ (ap (drop (firstBody form + m)) e ∙ (ap (λ k. drop k (take (firstBody form) (tableImage t) ++ drop (firstBody form) out)) place
-      ∙ (drop-append-add (take (firstBody form) (tableImage t)) (drop (firstBody form) out) m ∙ (drop-drop m (firstBody form) out ∙ ap (λ k. drop k out) (sym size)))))
+      ap (λ k. drop k mid) size ∙ (ap (drop (firstBody form + m)) e
+      ∙ (ap (λ k. drop k (take (firstBody form) (tableImage t) ++ drop (firstBody form) out)) place
+      ∙ (drop-append-add (take (firstBody form) (tableImage t)) (drop (firstBody form) out) m ∙ (drop-drop m (firstBody form) out
+      ∙ ap (λ k. drop k out) (sym size)))))

@@ -26,7 +26,8 @@ writeLength t output = cond (eqb (writeAnswer t output) 0) (length (tableImage t
 
 -- The image, then the bytes that stood there; on refusal the bytes as they were.
 abbrev pub writeBytes : List ℕ → List ℕ → List ℕ
-writeBytes t output = cond (eqb (writeAnswer t output) 0) (tableImage t ++ drop (length (tableImage t)) output) output
+writeBytes t output =
+    cond (eqb (writeAnswer t output) 0) (tableImage t ++ drop (length (tableImage t)) output) output
 
 -- The promise of writing, for all words t and bytes output: its answer r, and the bytes out that it leaves.
 abbrev pub WritePromise : List ℕ → List ℕ → Written → List ℕ → Type 0

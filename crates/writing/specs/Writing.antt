@@ -11,7 +11,8 @@ use Rattle.table.specs.Counted.{Counted}
 use Rattle.contents.specs.Form.{form}
 use Rattle.contents.specs.Image.{idBytes, imageOf}
 
--- A table that can be written: it is laid out, n is the number of its facts, and it has at most the most words.
+-- A table that can be written: it is laid out, n is the number of its facts, and it has at most the most
+-- words.
 pub record Writable (t : List ℕ) (n : ℕ) : Type 0 where
   pub counted : Counted t n
   pub few : length t ≤ product .most

@@ -10,6 +10,7 @@ ghost use Rattle.writing.specs.Calls.{WritePromise};
 mod writer;
 
 use consistency::check;
+use table::SHORT_OUTPUT;
 use table::Word;
 use table::count_facts;
 use writer::image_length;
@@ -22,10 +23,8 @@ pub struct Written {
     pub length: u16,
 }
 
-// Refusal 13: output shorter than the image.
-pub const SHORT_OUTPUT: u8 = 13;
-
-// Writes the image of a table. The bytes after it are untouched. Refused with 1, 2, 3 or 13, all bytes are as they were.
+// Writes the image of a table. The bytes after it are untouched. Refused with 1, 2, 3 or 13, all bytes are as
+// they were.
 pub fn write(t: &[Word], output: &mut [u8]) -> Written
     ensures { λ r. ⌜ WritePromise (now (t .entry)) (now (output .entry)) r (now (output .exit)) ⌝ }
 {

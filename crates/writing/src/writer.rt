@@ -52,7 +52,8 @@ pub fn image_length(t: &[Word], n: usize) -> usize
 // Stores a start or a count: 16 bits, low byte first.
 fn put_number(output: &mut [u8], at: usize, value: usize)
     requires { ⌜ (at + form .fieldSize ≤ length (now output)) × (value < fieldValues form) ⌝ }
-    ensures { λ _. ⌜ now (output .exit) ≡ set (set (now (output .entry)) at (value % byteValues)) (at + 1) (value / byteValues) ⌝ }
+    ensures { λ _. ⌜ now (output .exit) ≡ set (set (now (output .entry)) at (value % byteValues)) (at + 1)
+        (value / byteValues) ⌝ }
 {
     output[at] = (value % BYTE) as u8;
     output[at + 1] = (value / BYTE) as u8;
@@ -60,8 +61,10 @@ fn put_number(output: &mut [u8], at: usize, value: usize)
 
 // Stores the entry of kind k.
 fn put_entry(output: &mut [u8], k: Word, start: usize, count: usize)
-    requires { ⌜ (1 ≤ k) × (k ≤ form .entries) × (firstBody form ≤ length (now output)) × (start < fieldValues form) × (count < fieldValues form) ⌝ }
-    ensures { λ _. ⌜ now (output .exit) ≡ over (now (output .entry)) (entryAt form k) (entry form k start count) ⌝ }
+    requires { ⌜ (1 ≤ k) × (k ≤ form .entries) × (firstBody form ≤ length (now output))
+        × (start < fieldValues form) × (count < fieldValues form) ⌝ }
+    ensures { λ _. ⌜ now (output .exit) ≡ over (now (output .entry)) (entryAt form k)
+        (entry form k start count) ⌝ }
 {
     let at = entry_at(k);
     let size = fact_size(k);
@@ -74,7 +77,8 @@ fn put_entry(output: &mut [u8], k: Word, start: usize, count: usize)
 // Stores the contents of a table's image.
 pub fn put_contents(t: &[Word], n: usize, output: &mut [u8])
     requires { ⌜ Writable (now t) n × (length (tableImage (now t)) ≤ length (now output)) ⌝ }
-    ensures { λ _. ⌜ now (output .exit) ≡ take (firstBody form) (tableImage (now (t .entry))) ++ drop (firstBody form) (now (output .entry)) ⌝ }
+    ensures { λ _. ⌜ now (output .exit) ≡ take (firstBody form) (tableImage (now (t .entry))) ++ drop
+        (firstBody form) (now (output .entry)) ⌝ }
 {
     output[0] = EDITION as u8;
     output[1] = ENTRIES as u8;
@@ -95,8 +99,10 @@ pub fn put_contents(t: &[Word], n: usize, output: &mut [u8])
 
 // Stores the ids of a fact that has `ids` of them, and answers the place after them.
 fn put_fact(output: &mut [u8], at: usize, w: Word, ids: Word) -> usize
-    requires { ⌜ T (isFact product w) × (at + length (idBytes product form w) ≤ length (now output)) × (ids ≡ arity (kindOf w)) ⌝ }
-    ensures { λ r. ⌜ (r ≡ at + length (idBytes product form w)) × (now (output .exit) ≡ over (now (output .entry)) at (idBytes product form w)) ⌝ }
+    requires { ⌜ T (isFact product w) × (at + length (idBytes product form w) ≤ length (now output))
+        × (ids ≡ arity (kindOf w)) ⌝ }
+    ensures { λ r. ⌜ (r ≡ at + length (idBytes product form w))
+        × (now (output .exit) ≡ over (now (output .entry)) at (idBytes product form w)) ⌝ }
 {
     output[at] = first_of(w) as u8;
     if ids == 1 {
@@ -110,10 +116,14 @@ fn put_fact(output: &mut [u8], at: usize, w: Word, ids: Word) -> usize
     at + 3
 }
 
-// Stores the facts from place `from` up to place `to`, which have `ids` ids each, from byte `start` on. Answers the place after them.
+// Stores the facts from place `from` up to place `to`, which have `ids` ids each, from byte `start` on.
+// Answers the place after them.
 fn put_run(t: &[Word], from: usize, to: usize, ids: Word, output: &mut [u8], start: usize) -> usize
-    requires { ⌜ Writable (now t) (length (filled (now t))) × Run (now t) from to ids × Embodied (filled (now t)) (now output) (now output) from start × (length (tableImage (now t)) ≤ length (now output)) ⌝ }
-    ensures { λ r. ⌜ Embodied (filled (now (t .entry))) (now (output .entry)) (now (output .exit)) to r × (start ≤ r) ⌝ }
+    requires { ⌜ Writable (now t) (length (filled (now t))) × Run (now t) from to ids
+        × Embodied (filled (now t)) (now output) (now output) from start
+        × (length (tableImage (now t)) ≤ length (now output)) ⌝ }
+    ensures { λ r. ⌜ Embodied (filled (now (t .entry))) (now (output .entry)) (now (output .exit)) to r
+        × (start ≤ r) ⌝ }
 {
     let mut i = from;
     let mut at = start;
@@ -126,8 +136,10 @@ fn put_run(t: &[Word], from: usize, to: usize, ids: Word, output: &mut [u8], sta
 
 // Stores the bodies of a table's image, behind its contents: the facts of one id, of two and of three.
 pub fn put_bodies(t: &[Word], n: usize, output: &mut [u8])
-    requires { ⌜ Writable (now t) n × (length (tableImage (now t)) ≤ length (now output)) × (take (firstBody form) (now output) ≡ take (firstBody form) (tableImage (now t))) ⌝ }
-    ensures { λ _. ⌜ now (output .exit) ≡ tableImage (now (t .entry)) ++ drop (length (tableImage (now (t .entry)))) (now (output .entry)) ⌝ }
+    requires { ⌜ Writable (now t) n × (length (tableImage (now t)) ≤ length (now output))
+        × (take (firstBody form) (now output) ≡ take (firstBody form) (tableImage (now t))) ⌝ }
+    ensures { λ _. ⌜ now (output .exit) ≡ tableImage (now (t .entry)) ++ drop
+        (length (tableImage (now (t .entry)))) (now (output .entry)) ⌝ }
 {
     let ones = count_to(t, n, LITERAL);
     let twos = count_to(t, n, MEMBER);

@@ -1,4 +1,5 @@
--- `main`: the table has the most words, a chunk holds whole tickets, and the lines of its tickets fit the buffer. Assumes nothing.
+-- `main`: the table has the most words, a chunk holds whole tickets, and the lines of its tickets fit the buffer. Assumes
+-- nothing.
 use borrow.Author.Needs.{needs}
 use Rattle.apply_tickets.proofs.main.Statement.{statement}
 use Rattle.apply_tickets.proofs.main.Tie as tie

@@ -62,7 +62,8 @@ returns c =
     let fresh = run .before .before .before .before .before .before in
     let program = fresh .before .before .before .before .before in
     let words = made-fresh (now (program .args .table)) (program .pre .most) (fresh .fresh .ensures .1) in
-    ran-prints _ (program .pre .whole) words (input .result) (test .if1 .taken) (input .ensures) (count .result) (count .last .1 .0)
+    ran-prints _ (program .pre .whole) words (input .result) (test .if1 .taken) (input .ensures) (count .result)
+    (count .last .1 .0)
     (count .ensures .1)
 
 same-length-4 : tie.Need-same-length-4

@@ -1,4 +1,5 @@
--- `count_accepted`: no more checks accept than are done, and no more are done than there are rounds. The measure is the rounds left. Assumes nothing.
+-- `count_accepted`: no more checks accept than are done, and no more are done than there are rounds. The measure is the rounds
+-- left. Assumes nothing.
 use Prim.Native.Nat.{_-_, _≤_}
 use native.Mathlib.Omega.{arith}
 use borrow.Author.Needs.{needs}

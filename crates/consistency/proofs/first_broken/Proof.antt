@@ -1,4 +1,5 @@
--- `first_broken` meets its contract: the rules are visited on the table's words before its zeros, whose graph is the table's. Assumes nothing.
+-- `first_broken` meets its contract: the rules are visited on the table's words before its zeros, whose graph is the table's.
+-- Assumes nothing.
 use mathlib.Core.Path.{refl, sym, subst}
 use native.Mathlib.Nat.{le-trans}
 use lib.Dec.{lit≤}
@@ -9,10 +10,10 @@ use Rattle.rdfs.specs.Numbers.{product}
 use Rattle.rdfs.specs.Facts.{graph}
 use Rattle.rdfs.specs.Words.{filled, facts}
 use Rattle.table.proofs.Filled.{counted-filled, counted-ascending}
-use Rattle.runs.specs.Runs.{runCount}
-use Rattle.runs.specs.Graphs.{graphOf}
+use Rattle.spans.specs.Spans.{spanCount}
+use Rattle.spans.specs.Graphs.{graphOf}
 use Rattle.consistency.specs.Order.{rulesInOrder, Answers}
-use Rattle.runs.proofs.Entered.{zeros-at}
+use Rattle.spans.proofs.Entered.{zeros-at}
 use Rattle.consistency.proofs.Same.{answers-same}
 use Rattle.consistency.proofs.Linked.{counted-words, filled-within, facts-within}
 use Rattle.consistency.proofs.first_broken.Statement.{statement}
@@ -24,7 +25,8 @@ count-facts-requires c κs = search needs
 slice-aggregate-words : tie.Need-slice-aggregate-words
 slice-aggregate-words c =
     let entry = c .before .before .before in
-    sym (length-take-le (c .before .count-facts .result) (now (entry .args .t)) (counted-ascending product (now (entry .args .t)) (entry .pre .0) _ (c .before .count-facts .ensures) .0))
+    sym (length-take-le (c .before .count-facts .result) (now (entry .args .t)) (counted-ascending product (now (entry .args .t))
+    (entry .pre .0) _ (c .before .count-facts .ensures) .0))
 
 slice-aggregate-fill-index : tie.Need-slice-aggregate-fill-index
 slice-aggregate-fill-index c = search needs
@@ -32,8 +34,9 @@ slice-aggregate-fill-index c = search needs
 fill-index-requires : tie.Need-fill-index-requires
 fill-index-requires c κs =
     let entry = c .before .before .before .before in
-    let counted = counted-words (now (entry .args .t)) (entry .pre .0) _ (c .before .before .count-facts .ensures) (entry .pre .1) in
-    (counted .0, le-trans (counted .1) (lit≤ tt), refl, λ j. zeros-at runCount j)
+    let counted = counted-words (now (entry .args .t)) (entry .pre .0) _ (c .before .before .count-facts .ensures)
+    (entry .pre .1) in
+    (counted .0, le-trans (counted .1) (lit≤ tt), refl, λ j. zeros-at spanCount j)
 
 slice-aggregate-visit : tie.Need-slice-aggregate-visit
 slice-aggregate-visit c = search needs
@@ -43,7 +46,11 @@ visit-requires c κs =
     let at-before = c .before .before .before .before in
     let at-count-facts = at-before .before in
     let entry = at-count-facts .before .before in
-    record { words = counted-words (now (entry .args .t)) (entry .pre .0) _ (at-count-facts .count-facts .ensures) (entry .pre .1) .0; index = c .before .before .fill-index .ensures }
+    record {
+      words = counted-words (now (entry .args .t)) (entry .pre .0) _ (at-count-facts .count-facts .ensures)
+          (entry .pre .1) .0;
+      index = c .before .before .fill-index .ensures;
+    }
 
 returns : tie.Need-returns
 returns c =
@@ -52,7 +59,8 @@ returns c =
     let entry = at-count-facts .before .before in
     let t = now (entry .args .t) in
     let counted = counted-filled product t (entry .pre .0) _ (at-count-facts .count-facts .ensures) in
-    answers-same (graphOf (filled t)) (graph (facts product t)) (filled-within t (entry .pre .0)) (facts-within t (entry .pre .0)) rulesInOrder (c .visit .result)
+    answers-same (graphOf (filled t)) (graph (facts product t)) (filled-within t (entry .pre .0)) (facts-within t (entry .pre .0))
+    rulesInOrder (c .visit .result)
     (subst (λ l. Answers (graphOf l) rulesInOrder (c .visit .result)) counted (c .visit .ensures))
 
 pub first-broken-spec : {M : Type 1} → statement M

@@ -23,15 +23,20 @@ returns c =
     let refusal = at-refusal .list-refusal .ensures in
     let s = at-refusal .before .before .before .before .before .before in
     let tickets = at-refusal .before .before .count-tickets .ensures ∙ tickets-counted (s .args .bytes .now) in
-    list-refused (s .args .table .now) (s .args .bytes .now) (s .args .answers .now) tickets (refusal .0) (refusal .1) (c .before .if1 .taken) (c .sum-up .ensures)
+    list-refused (s .args .table .now) (s .args .bytes .now) (s .args .answers .now) tickets (refusal .0) (refusal .1)
+    (c .before .if1 .taken) (c .sum-up .ensures)
 
 run-checked-requires : tie.Need-run-checked-requires
 run-checked-requires c κs =
     let at-refusal = c .before .before .before .before .before in
     let refusal = at-refusal .list-refusal .ensures in
     let s = at-refusal .before .before .before .before .before .before in
-    let tickets = at-refusal .before .before .count-tickets .ensures ∙ tickets-counted (s .args .bytes .now) in
-    (list-table (s .args .table .now) (s .args .bytes .now) (s .args .answers .now) tickets (refusal .0) (refusal .1) (c .before .before .if1 .left), list-room (s .args .table .now) (s .args .bytes .now) (s .args .answers .now) tickets (refusal .0) (refusal .1) (c .before .before .if1 .left))
+    let tickets = at-refusal .before .before .count-tickets .ensures ∙ tickets-counted (s .args .bytes .now) in (
+      list-table (s .args .table .now) (s .args .bytes .now) (s .args .answers .now) tickets (refusal .0) (refusal .1)
+          (c .before .before .if1 .left),
+      list-room (s .args .table .now) (s .args .bytes .now) (s .args .answers .now) tickets
+          (refusal .0) (refusal .1) (c .before .before .if1 .left),
+    )
 
 sum-up-requires-2 : tie.Need-sum-up-requires-2
 sum-up-requires-2 c κs =
@@ -39,7 +44,8 @@ sum-up-requires-2 c κs =
     let refusal = at-refusal .list-refusal .ensures in
     let s = at-refusal .before .before .before .before .before .before in
     let tickets = at-refusal .before .before .count-tickets .ensures ∙ tickets-counted (s .args .bytes .now) in
-    list-within (s .args .table .now) (s .args .bytes .now) (s .args .answers .now) tickets (refusal .0) (refusal .1) (c .before .before .before .before .run-checked .ensures)
+    list-within (s .args .table .now) (s .args .bytes .now) (s .args .answers .now) tickets (refusal .0) (refusal .1)
+    (c .before .before .before .before .run-checked .ensures)
 
 same-length-2 : tie.Need-same-length-2
 same-length-2 c = search needs
@@ -53,7 +59,9 @@ returns-2 c =
     let refusal = at-refusal .list-refusal .ensures in
     let s = at-refusal .before .before .before .before .before .before in
     let tickets = at-refusal .before .before .count-tickets .ensures ∙ tickets-counted (s .args .bytes .now) in
-    list-run (s .args .table .now) (s .args .bytes .now) (s .args .answers .now) tickets (refusal .0) (refusal .1) (c .before .before .before .before .before .run-checked .ensures) (c .before .before .before .before .before .before .before .before .if1 .left) (c .sum-up2 .ensures)
+    list-run (s .args .table .now) (s .args .bytes .now) (s .args .answers .now) tickets (refusal .0) (refusal .1)
+    (c .before .before .before .before .before .run-checked .ensures)
+    (c .before .before .before .before .before .before .before .before .if1 .left) (c .sum-up2 .ensures)
 
 pub apply-list-spec : {M : Type 1} → statement M
 apply-list-spec =

@@ -39,7 +39,8 @@ put-read-requires : tie.Need-put-read-requires
 put-read-requires c κs =
     let reading = c .before .before .before .before .before .before .before .read-input in
     record {
-      within = subst (λ r. Within r (length (reading .last .1 .0))) (c .before .before .before .before .filled .given .1) (reading .ensures);
+      within = subst (λ r. Within r (length (reading .last .1 .0))) (c .before .before .before .before .filled .given .1)
+          (reading .ensures);
       longer = omega (arith, reading .kept .1 .0);
       room = omega (arith, c .before .before .large-buffer .ensures);
     }

@@ -25,7 +25,8 @@ same-length c = search needs
 returns : tie.Need-returns
 returns c =
     let s = c .before .before .before .before .before .args in
-    read-refused (s .t .now) (s .image .now) 1 (read-small (s .t .now) (s .image .now) (sym (c .before .is-bad-size .ensures) ∙ c .if1 .taken)) (omega arith)
+    read-refused (s .t .now) (s .image .now) 1 (read-small (s .t .now) (s .image .now) (sym (c .before .is-bad-size .ensures)
+    ∙ c .if1 .taken)) (omega arith)
 
 has-contents-requires : tie.Need-has-contents-requires
 has-contents-requires c κs = search needs
@@ -39,19 +40,23 @@ returns-2 c =
     let at-size = at-contents .before .before in
     let known = at-size .before .before .shared-slice-known .given in
     let s = at-size .before .before .before .before .args in
-    let wrong = decides-false (at-contents .has-contents .result) (at-contents .has-contents .ensures) (not-true (at-contents .has-contents .result) (c .if2 .taken)) in
+    let wrong = decides-false (at-contents .has-contents .result) (at-contents .has-contents .ensures)
+    (not-true (at-contents .has-contents .result) (c .if2 .taken)) in
     read-refused (s .t .now) (s .image .now) 12
-    (read-malformed (s .t .now) (s .image .now) (sym (at-size .is-bad-size .ensures) ∙ at-contents .before .if1 .left) (not-false _ (sym (wrong-malformed (s .image .now) (λ i. omega (arith, known i)) wrong)))) (omega arith)
+    (read-malformed (s .t .now) (s .image .now) (sym (at-size .is-bad-size .ensures) ∙ at-contents .before .if1 .left)
+    (not-false _ (sym (wrong-malformed (s .image .now) (λ i. omega (arith, known i)) wrong)))) (omega arith)
 
 count-words-requires : tie.Need-count-words-requires
 count-words-requires c κs =
     let at-contents = c .before in
-    decides-true (at-contents .has-contents .result) (at-contents .has-contents .ensures) (not-false (at-contents .has-contents .result) (c .if2 .left))
+    decides-true (at-contents .has-contents .result) (at-contents .has-contents .ensures)
+    (not-false (at-contents .has-contents .result) (c .if2 .left))
 
 overfull-refusal-requires : tie.Need-overfull-refusal-requires
 overfull-refusal-requires c κs =
     let at-contents = c .before .before .before in
-    decides-true (at-contents .has-contents .result) (at-contents .has-contents .ensures) (not-false (at-contents .has-contents .result) (c .before .before .if2 .left))
+    decides-true (at-contents .has-contents .result) (at-contents .has-contents .ensures)
+    (not-false (at-contents .has-contents .result) (c .before .before .if2 .left))
 
 same-length-3 : tie.Need-same-length-3
 same-length-3 c = search needs
@@ -63,18 +68,21 @@ returns-3 c =
     let s = at-size .before .before .before .before .args in
     let many = subst (λ n. length (s .t .now) < n) (at-count .count-words .ensures) (c .before .if3 .taken) in
     read-refused (s .t .now) (s .image .now) (c .overfull-refusal .result)
-    (read-overfull (s .t .now) (s .image .now) (sym (at-size .is-bad-size .ensures) ∙ at-count .before .before .before .if1 .left) many (c .overfull-refusal .result) (c .overfull-refusal .ensures))
+    (read-overfull (s .t .now) (s .image .now) (sym (at-size .is-bad-size .ensures) ∙ at-count .before .before .before .if1 .left)
+    many (c .overfull-refusal .result) (c .overfull-refusal .ensures))
     (overfull-some (malformed product form (s .image .now)) (c .overfull-refusal .result) (c .overfull-refusal .ensures))
 
 array-borrow-prefix-work : tie.Need-array-borrow-prefix-work
 array-borrow-prefix-work c =
     let at-size = c .before .before .before .before .before .before in
-    size-most (at-size .before .before .before .before .args .t .now) (sym (at-size .is-bad-size .ensures) ∙ c .before .before .before .before .before .if1 .left)
+    size-most (at-size .before .before .before .before .args .t .now) (sym (at-size .is-bad-size .ensures)
+    ∙ c .before .before .before .before .before .if1 .left)
 
 slice-aggregate-read-through : tie.Need-slice-aggregate-read-through
 slice-aggregate-read-through c =
     let at-size = c .before .before .before .before .before .before .before in
-    sym (length-take-le _ _ (size-most (at-size .before .before .before .before .args .t .now) (sym (at-size .is-bad-size .ensures) ∙ c .before .before .before .before .before .before .if1 .left)))
+    sym (length-take-le _ _ (size-most (at-size .before .before .before .before .args .t .now)
+    (sym (at-size .is-bad-size .ensures) ∙ c .before .before .before .before .before .before .if1 .left)))
 
 read-through-requires : tie.Need-read-through-requires
 read-through-requires c κs =
@@ -84,7 +92,8 @@ read-through-requires c κs =
     let s = at-size .before .before .before .before .args in
     let sized = sym (at-size .is-bad-size .ensures) ∙ at-contents .before .if1 .left in (
       record {
-        contents = decides-true (at-contents .has-contents .result) (at-contents .has-contents .ensures) (not-false (at-contents .has-contents .result) (at-count .before .if2 .left));
+        contents = decides-true (at-contents .has-contents .result) (at-contents .has-contents .ensures)
+            (not-false (at-contents .has-contents .result) (at-count .before .if2 .left));
         fits = subst (λ n. n ≤ length (s .t .now)) (at-count .count-words .ensures) (c .before .before .if3 .left);
         size = sized;
       },

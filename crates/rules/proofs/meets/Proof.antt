@@ -4,9 +4,9 @@ use Prim.Native.Nat.{ℕ}
 use mathlib.Core.Path.{_≡_}
 use borrow.Author.Needs.{needs}
 use Rattle.rules.specs.declared.Rule.{Rule}
-use Rattle.runs.specs.Asked.{startKind}
+use Rattle.spans.specs.Asked.{startKind}
 use Rattle.rules.specs.RuleOf.{ruleOf}
-use Rattle.runs.proofs.Decided.{decides-as}
+use Rattle.spans.proofs.Decided.{decides-as}
 use Rattle.rules.proofs.meets.Statement.{statement}
 use Rattle.rules.proofs.meets.Tie as tie
 
@@ -46,8 +46,10 @@ meets-spec =
     (λ c. search needs) (λ c κs. search (needs, started))
     (λ c. search needs) (λ c κs. search (needs, started))
     (λ c. search needs) (λ c κs. search (needs, started))
-    (λ c. search needs) (λ c. search needs) (λ c. search needs) (λ c. search needs) (λ c. search needs) (λ c. search needs) (λ c. search needs)
-    (λ c. search needs) (λ c. search needs) (λ c. search needs) (λ c. search needs) (λ c. search needs) (λ c. search needs) (λ c. search needs)
+    (λ c. search needs) (λ c. search needs) (λ c. search needs) (λ c. search needs) (λ c. search needs) (λ c. search needs)
+    (λ c. search needs)
+    (λ c. search needs) (λ c. search needs) (λ c. search needs) (λ c. search needs) (λ c. search needs) (λ c. search needs)
+    (λ c. search needs)
     (λ c. rw (c .before .enum-told15 .given .1) (c .all-carried .ensures))
     (λ c. search needs)
     (λ c. rw (c .before .enum-told17 .given .1) (c .all-carried2 .ensures))
@@ -56,7 +58,8 @@ meets-spec =
     (λ c. search needs)
     (λ c. rw (c .before .enum-told21 .given .1) (c .all-subjects .ensures))
     (λ c. search needs)
-    (λ c. rw (c .before .enum-told23 .given .1) (decides-as (c .all-carried3 .result) _ _ (λ h x y z s m. h x y z m s) (λ h x y z m s. h x y z s m) (c .all-carried3 .ensures)))
+    (λ c. rw (c .before .enum-told23 .given .1) (decides-as (c .all-carried3 .result) _ _ (λ h x y z s m. h x y z m s)
+    (λ h x y z m s. h x y z s m) (c .all-carried3 .ensures)))
     (λ c. rw (c .before .enum-told24 .given .1) (c .all-inherited .ensures))
     (λ c. rw (c .before .enum-told25 .given .1) (c .has-least .ensures))
     (λ c. search needs)

@@ -23,7 +23,8 @@ returns c =
     let refusal = at-refusal .list-refusal .ensures in
     let s = at-refusal .before .before .before .before .before .before in
     let tickets = at-refusal .before .before .count-tickets .ensures ∙ tickets-counted (s .args .bytes .now) in
-    list-refused (s .args .table .now) (s .args .bytes .now) (s .args .answers .now) tickets (refusal .0) (refusal .1) (c .before .if1 .taken) (c .sum-up .ensures)
+    list-refused (s .args .table .now) (s .args .bytes .now) (s .args .answers .now) tickets (refusal .0) (refusal .1)
+    (c .before .if1 .taken) (c .sum-up .ensures)
 
 run-each-requires : tie.Need-run-each-requires
 run-each-requires c κs =
@@ -31,7 +32,8 @@ run-each-requires c κs =
     let refusal = at-refusal .list-refusal .ensures in
     let s = at-refusal .before .before .before .before .before .before in
     let tickets = at-refusal .before .before .count-tickets .ensures ∙ tickets-counted (s .args .bytes .now) in
-    list-room (s .args .table .now) (s .args .bytes .now) (s .args .answers .now) tickets (refusal .0) (refusal .1) (c .before .before .if1 .left)
+    list-room (s .args .table .now) (s .args .bytes .now) (s .args .answers .now) tickets (refusal .0) (refusal .1)
+    (c .before .before .if1 .left)
 
 sum-up-requires-2 : tie.Need-sum-up-requires-2
 sum-up-requires-2 c κs =
@@ -39,7 +41,8 @@ sum-up-requires-2 c κs =
     let refusal = at-refusal .list-refusal .ensures in
     let s = at-refusal .before .before .before .before .before .before in
     let tickets = at-refusal .before .before .count-tickets .ensures ∙ tickets-counted (s .args .bytes .now) in
-    list-within (s .args .table .now) (s .args .bytes .now) (s .args .answers .now) tickets (refusal .0) (refusal .1) (c .before .before .before .before .run-each .ensures)
+    list-within (s .args .table .now) (s .args .bytes .now) (s .args .answers .now) tickets (refusal .0) (refusal .1)
+    (c .before .before .before .before .run-each .ensures)
 
 same-length-2 : tie.Need-same-length-2
 same-length-2 c = search needs
@@ -53,7 +56,9 @@ returns-2 c =
     let refusal = at-refusal .list-refusal .ensures in
     let s = at-refusal .before .before .before .before .before .before in
     let tickets = at-refusal .before .before .count-tickets .ensures ∙ tickets-counted (s .args .bytes .now) in
-    list-run (s .args .table .now) (s .args .bytes .now) (s .args .answers .now) tickets (refusal .0) (refusal .1) (c .before .before .before .before .before .run-each .ensures) (c .before .before .before .before .before .before .before .before .if1 .left) (c .sum-up2 .ensures)
+    list-run (s .args .table .now) (s .args .bytes .now) (s .args .answers .now) tickets (refusal .0) (refusal .1)
+    (c .before .before .before .before .before .run-each .ensures)
+    (c .before .before .before .before .before .before .before .before .if1 .left) (c .sum-up2 .ensures)
 
 pub apply-each-spec : {M : Type 1} → statement M
 apply-each-spec =

@@ -33,7 +33,12 @@ clear-from-requires : tie.Need-clear-from-requires
 clear-from-requires c κs =
     let bad = c .before .before .before .is-bad-size in
     let t = now (c .before .before .before .before .before .before .args .t) in
-    omega (arith, length-set t 0 (c .before .word-of .result), size-some product t (sym (bad .ensures) ∙ c .before .before .if1 .left))
+    omega (
+      arith,
+      length-set t 0 (c .before .word-of .result),
+      size-some product t (sym (bad .ensures)
+          ∙ c .before .before .if1 .left),
+    )
 
 same-length-2 : tie.Need-same-length-2
 same-length-2 c =
@@ -46,8 +51,11 @@ returns-2 c =
     let t = now (c .before .before .before .before .before .before .before .before .before .args .t) in
     let good = sym (bad .ensures) ∙ c .before .before .before .before .before .if1 .left in
     let first = c .before .before .before .before .word-of .ensures in
-    let taken = fresh-taken t good in
-    (taken .0, c .before .before .clear-from .ensures ∙ (ap (λ w. clearedFrom (set t 0 w) 1) first ∙ (fresh-made t (size-some product t good) ∙ taken .1)))
+    let taken = fresh-taken t good in (
+      taken .0,
+      c .before .before .clear-from .ensures ∙ (ap (λ w. clearedFrom (set t 0 w) 1) first
+          ∙ (fresh-made t (size-some product t good) ∙ taken .1)),
+    )
 
 pub fresh-spec : {M : Type 1} → statement M
 fresh-spec =

@@ -4,7 +4,7 @@ use mathlib.Core.Path.{sym, ap, _∙_}
 use Rattle.rdfs.specs.Numbers.{product}
 use Rattle.rdfs.specs.Lists.{member}
 use Rattle.table.proofs.Filled.{counted-filled, counted-ascending}
-use Rattle.table.proofs.Refusals.{taken-laid}
+use Rattle.table.proofs.TableRefusals.{taken-laid}
 use Rattle.table_calls.proofs.Calls.{present-refused, present-taken}
 use borrow.Author.Needs.{needs}
 use Rattle.table_calls.proofs.lookup.Statement.{statement}
@@ -15,8 +15,11 @@ layout-refusal-requires c κs = search needs
 
 returns : tie.Need-returns
 returns c =
-    let asked = c .before .layout-refusal in
-    (asked .ensures, sym (present-refused (now (c .before .before .before .args .t)) (c .before .before .before .args .w) (λ e. c .if1 .taken (asked .ensures ∙ e))))
+    let asked = c .before .layout-refusal in (
+      asked .ensures,
+      sym (present-refused (now (c .before .before .before .args .t)) (c .before .before .before .args .w)
+          (λ e. c .if1 .taken (asked .ensures ∙ e))),
+    )
 
 count-facts-requires : tie.Need-count-facts-requires
 count-facts-requires c κs =

@@ -10,10 +10,17 @@ add-result : tie.Need-add-result
 add-result c = search needs
 
 returns : tie.Need-returns
-returns c = (sym (value-digit (c .before .before .args .x) (c .before .if1 .left) (omega (arith, c .if2 .taken))), omega (arith, c .if2 .taken))
+returns c = (
+  sym (value-digit (c .before .before .args .x) (c .before .if1 .left) (omega (arith, c .if2 .taken))),
+  omega (arith, c .if2 .taken),
+)
 
 returns-2 : tie.Need-returns-2
-returns-2 c = (sym (value-letter (c .before .before .before .before .args .x) (c .before .if3 .left) (omega (arith, c .if4 .taken))), omega (arith, c .if4 .taken))
+returns-2 c = (
+  sym (value-letter (c .before .before .before .before .args .x) (c .before .if3 .left)
+      (omega (arith, c .if4 .taken))),
+  omega (arith, c .if4 .taken),
+)
 
 returns-3 : tie.Need-returns-3
 returns-3 c = (sym (value-below (c .before .args .x) (c .if1 .taken)), omega arith)

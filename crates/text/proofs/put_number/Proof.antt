@@ -9,7 +9,8 @@ use Rattle.text.proofs.put_number.Statement.{statement}
 use Rattle.text.proofs.put_number.Tie as tie
 
 abbrev Inv-loop : tie.InvT-loop
-Inv-loop out₀ at n after digits k i₀ out i = (i ≤ k) × (k ≤ 20) × (at + k < length out) × (length out ≡ length out₀) × Copied at i out₀ digits out
+Inv-loop out₀ at n after digits k i₀ out i = (i ≤ k) × (k ≤ 20) × (at + k < length out) × (length out ≡ length out₀)
+    × Copied at i out₀ digits out
 
 abbrev μ-loop : tie.MeasureT-loop
 μ-loop out₀ at n after digits k i₀ out i = k - i
@@ -20,8 +21,15 @@ decimal-requires c κs = search needs
 loop-holds : tie.Need-loop-holds Inv-loop μ-loop
 loop-holds c =
     let s = c .before .before .before in
-    let asked = c .decimal in
-    (search needs, few-digits 20 (s .args .n) (asked .result) (omega arith) (omega (arith, s .fits .n .fits)) (asked .ensures .1 .0), digits-fit (s .args .n) (s .args .after) (s .args .at) (asked .result) (s .args .out .now) (s .pre) (asked .ensures .1 .0), refl, copied-none (s .args .at) (s .args .out .now) (asked .last .1 .0))
+    let asked = c .decimal in (
+      search needs,
+      few-digits 20 (s .args .n) (asked .result) (omega arith) (omega (arith, s .fits .n .fits))
+          (asked .ensures .1 .0),
+      digits-fit (s .args .n) (s .args .after) (s .args .at) (asked .result) (s .args .out .now)
+          (s .pre) (asked .ensures .1 .0),
+      refl,
+      copied-none (s .args .at) (s .args .out .now) (asked .last .1 .0),
+    )
 
 array-read-out : tie.Need-array-read-out Inv-loop μ-loop
 array-read-out c = search needs
@@ -44,8 +52,14 @@ loop-again c =
     let asked = c .before .before .decimal in
     let s = c .before .before .before .before .before in
     let in-digits : at-loop .i < length (asked .last .1 .0) = omega (arith, c .loop-test .taken, asked .ensures .0 .0) in
-    let in-out : s .args .at + at-loop .i < length (at-loop .out) = omega (arith, c .loop-test .taken, at-loop .inv .2) in
-    (search needs, at-loop .inv .1, search needs, search needs, copied-more (s .args .at) (at-loop .i) (s .args .out .now) (asked .last .1 .0) (at-loop .out) in-out in-digits (at-loop .inv .4))
+    let in-out : s .args .at + at-loop .i < length (at-loop .out) = omega (arith, c .loop-test .taken, at-loop .inv .2) in (
+      search needs,
+      at-loop .inv .1,
+      search needs,
+      search needs,
+      copied-more (s .args .at) (at-loop .i) (s .args .out .now)
+          (asked .last .1 .0) (at-loop .out) in-out in-digits (at-loop .inv .4),
+    )
 
 add-out-2 : tie.Need-add-out-2 Inv-loop μ-loop
 add-out-2 c = search needs
@@ -69,7 +83,8 @@ returns c =
     let s = c .before .before .before .before .before in
     let k = asked .result in
     let whole : at-loop .i ≡ k = omega (arith, at-loop .inv .0, c .loop-test .left) in
-    number-put (s .args .at) (s .args .n) k (s .args .after) (s .args .out .now) (asked .last .1 .0) (at-loop .out) (at-loop .inv .2) (asked .ensures .1 .0) (asked .ensures .1 .1)
+    number-put (s .args .at) (s .args .n) k (s .args .after) (s .args .out .now) (asked .last .1 .0) (at-loop .out)
+    (at-loop .inv .2) (asked .ensures .1 .0) (asked .ensures .1 .1)
     (subst (λ i. Copied (s .args .at) i (s .args .out .now) (asked .last .1 .0) (at-loop .out)) whole (at-loop .inv .4))
 
 pub put-number-spec : {M : Type 1} → statement M

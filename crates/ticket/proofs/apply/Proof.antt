@@ -22,7 +22,8 @@ returns : tie.Need-returns
 returns c =
     let k = c .before .before .check in
     let s = c .before .before .before .before .before .before in
-    answered-refused (c .refused .result) (k .result) (c .refused .ensures) (table-refused (now (s .args .table)) (now (s .args .ticket)) (k .result) (sym (k .ensures)) (c .before .if1 .taken))
+    answered-refused (c .refused .result) (k .result) (c .refused .ensures) (table-refused (now (s .args .table))
+    (now (s .args .ticket)) (k .result) (sym (k .ensures)) (c .before .if1 .taken))
 
 apply-checked-requires : tie.Need-apply-checked-requires
 apply-checked-requires c κs =

@@ -16,7 +16,8 @@ refused-requires c κs = search needs
 returns : tie.Need-returns
 returns c =
     let s = c .before .before .before .before in
-    answered-refused (c .refused .result) 4 (c .refused .ensures) (length-refused (now (s .args .table)) (now (s .args .ticket)) (s .pre) (c .before .if1 .taken))
+    answered-refused (c .refused .result) 4 (c .refused .ensures) (length-refused (now (s .args .table)) (now (s .args .ticket))
+    (s .pre) (c .before .if1 .taken))
 
 decode-requires : tie.Need-decode-requires
 decode-requires c κs = search needs

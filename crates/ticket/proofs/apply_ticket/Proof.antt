@@ -22,7 +22,8 @@ returns : tie.Need-returns
 returns c =
     let f = c .before .before .form-refusal in
     let s = c .before .before .before .before in
-    answered-refused (c .refused .result) (f .result) (c .refused .ensures) (form-refused-as (now (s .args .table)) (bytesOf (s .args .t)) (s .pre) (f .result) refl (sym (f .ensures)) (c .before .if1 .taken))
+    answered-refused (c .refused .result) (f .result) (c .refused .ensures) (form-refused-as (now (s .args .table))
+    (bytesOf (s .args .t)) (s .pre) (f .result) refl (sym (f .ensures)) (c .before .if1 .taken))
 
 count-facts-requires : tie.Need-count-facts-requires
 count-facts-requires c κs = search needs
@@ -46,15 +47,19 @@ run-insertion-requires c κs =
     let n = w .before .before .before .before in
     let f = n .before .before in
     let s = f .before .before .before in
-    wide-ready (s .args .t) (d .if2 .taken) (w .before .before .before .wide .ensures) (w .before .before .wide2 .ensures) (w .before .wide3 .ensures) (w .wide4 .ensures) (s .pre) (n .count-facts .ensures) (f .before .form-refusal .ensures) (f .if1 .left)
+    wide-ready (s .args .t) (d .if2 .taken) (w .before .before .before .wide .ensures) (w .before .before .wide2 .ensures)
+    (w .before .wide3 .ensures) (w .wide4 .ensures) (s .pre) (n .count-facts .ensures) (f .before .form-refusal .ensures)
+    (f .if1 .left)
 
 answer-of-requires : tie.Need-answer-of-requires
 answer-of-requires c κs =
     let q = c .before .before in
     let d = q .before .before in
     let n = d .before .before .before .before .before .before in
-    let s = n .before .before .before .before .before in
-    (count-fits (now (s .args .table)) (bytesOf (s .args .t)) (s .pre) (n .count-facts .result) (n .count-facts .ensures), q .run-insertion .ensures .fits)
+    let s = n .before .before .before .before .before in (
+      count-fits (now (s .args .table)) (bytesOf (s .args .t)) (s .pre) (n .count-facts .result) (n .count-facts .ensures),
+      q .run-insertion .ensures .fits,
+    )
 
 same-length : tie.Need-same-length
 same-length c = search needs
@@ -67,7 +72,10 @@ returns-2 c =
     let n = w .before .before .before .before in
     let f = n .before .before in
     let s = f .before .before .before in
-    answered-stepped (c .answer-of .ensures) (subst (λ l. Stepped (n .count-facts .result) (q .run-insertion .result) (q .run-insertion .last .0) (step product (now (s .args .table)) l)) (wide-bytes (s .args .t) (d .if2 .taken) (w .before .before .before .wide .ensures) (w .before .before .wide2 .ensures) (w .before .wide3 .ensures) (w .wide4 .ensures)) (q .run-insertion .ensures))
+    answered-stepped (c .answer-of .ensures) (subst (λ l. Stepped (n .count-facts .result) (q .run-insertion .result)
+    (q .run-insertion .last .0) (step product (now (s .args .table)) l)) (wide-bytes (s .args .t) (d .if2 .taken)
+    (w .before .before .before .wide .ensures) (w .before .before .wide2 .ensures) (w .before .wide3 .ensures)
+    (w .wide4 .ensures)) (q .run-insertion .ensures))
 
 run-deletion-requires : tie.Need-run-deletion-requires
 run-deletion-requires c κs =
@@ -76,15 +84,19 @@ run-deletion-requires c κs =
     let n = w .before .before .before .before in
     let f = n .before .before in
     let s = f .before .before .before in
-    wide-ready (s .args .t) (deletes-else (s .args .t) (f .before .form-refusal .ensures) (f .if1 .left) (d .if2 .left)) (w .before .before .before .wide .ensures) (w .before .before .wide2 .ensures) (w .before .wide3 .ensures) (w .wide4 .ensures) (s .pre) (n .count-facts .ensures) (f .before .form-refusal .ensures) (f .if1 .left)
+    wide-ready (s .args .t) (deletes-else (s .args .t) (f .before .form-refusal .ensures) (f .if1 .left) (d .if2 .left))
+    (w .before .before .before .wide .ensures) (w .before .before .wide2 .ensures) (w .before .wide3 .ensures)
+    (w .wide4 .ensures) (s .pre) (n .count-facts .ensures) (f .before .form-refusal .ensures) (f .if1 .left)
 
 answer-of-requires-2 : tie.Need-answer-of-requires-2
 answer-of-requires-2 c κs =
     let q = c .before .before in
     let d = q .before .before in
     let n = d .before .before .before .before .before .before in
-    let s = n .before .before .before .before .before in
-    (count-fits (now (s .args .table)) (bytesOf (s .args .t)) (s .pre) (n .count-facts .result) (n .count-facts .ensures), q .run-deletion .ensures .fits)
+    let s = n .before .before .before .before .before in (
+      count-fits (now (s .args .table)) (bytesOf (s .args .t)) (s .pre) (n .count-facts .result) (n .count-facts .ensures),
+      q .run-deletion .ensures .fits,
+    )
 
 same-length-2 : tie.Need-same-length-2
 same-length-2 c = search needs
@@ -97,7 +109,11 @@ returns-3 c =
     let n = w .before .before .before .before in
     let f = n .before .before in
     let s = f .before .before .before in
-    answered-stepped (c .answer-of2 .ensures) (subst (λ l. Stepped (n .count-facts .result) (q .run-deletion .result) (q .run-deletion .last .0) (step product (now (s .args .table)) l)) (wide-bytes (s .args .t) (deletes-else (s .args .t) (f .before .form-refusal .ensures) (f .if1 .left) (d .if2 .left)) (w .before .before .before .wide .ensures) (w .before .before .wide2 .ensures) (w .before .wide3 .ensures) (w .wide4 .ensures)) (q .run-deletion .ensures))
+    answered-stepped (c .answer-of2 .ensures) (subst (λ l. Stepped (n .count-facts .result) (q .run-deletion .result)
+    (q .run-deletion .last .0) (step product (now (s .args .table)) l))
+    (wide-bytes (s .args .t) (deletes-else (s .args .t) (f .before .form-refusal .ensures) (f .if1 .left) (d .if2 .left))
+    (w .before .before .before .wide .ensures) (w .before .before .wide2 .ensures) (w .before .wide3 .ensures)
+    (w .wide4 .ensures)) (q .run-deletion .ensures))
 
 pub apply-ticket-spec : {M : Type 1} → statement M
 apply-ticket-spec =

@@ -14,22 +14,45 @@ is-bad-kind-requires : tie.Need-is-bad-kind-requires
 is-bad-kind-requires c κs = search needs
 
 returns-2 : tie.Need-returns-2
-returns-2 c = simp (sym (c .before .before .before .is-bad-operation .ensures) ∙ c .before .before .if1 .left, sym (c .before .is-bad-kind .ensures) ∙ c .if2 .taken)
+returns-2 c = simp (
+  sym (c .before .before .before .is-bad-operation .ensures) ∙ c .before .before .if1 .left,
+  sym (c .before .is-bad-kind .ensures) ∙ c .if2 .taken,
+)
 
 has-bad-ids-requires : tie.Need-has-bad-ids-requires
 has-bad-ids-requires c κs = search needs
 
 returns-3 : tie.Need-returns-3
-returns-3 c = simp (sym (c .before .before .before .before .before .is-bad-operation .ensures) ∙ c .before .before .before .before .if1 .left, sym (c .before .before .before .is-bad-kind .ensures) ∙ c .before .before .if2 .left, sym (c .before .has-bad-ids .ensures) ∙ c .if3 .taken)
+returns-3 c = simp (
+  sym (c .before .before .before .before .before .is-bad-operation .ensures)
+      ∙ c .before .before .before .before .if1 .left,
+  sym (c .before .before .before .is-bad-kind .ensures)
+      ∙ c .before .before .if2 .left,
+  sym (c .before .has-bad-ids .ensures) ∙ c .if3 .taken,
+)
 
 is-guarded-requires : tie.Need-is-guarded-requires
 is-guarded-requires c κs = search needs
 
 returns-4 : tie.Need-returns-4
-returns-4 c = simp (sym (c .before .before .before .before .before .before .before .is-bad-operation .ensures) ∙ c .before .before .before .before .before .before .if1 .left, sym (c .before .before .before .before .before .is-bad-kind .ensures) ∙ c .before .before .before .before .if2 .left, sym (c .before .before .before .has-bad-ids .ensures) ∙ c .before .before .if3 .left, sym (c .before .is-guarded .ensures) ∙ c .if4 .taken)
+returns-4 c = simp (
+  sym (c .before .before .before .before .before .before .before .is-bad-operation .ensures)
+      ∙ c .before .before .before .before .before .before .if1 .left,
+  sym (c .before .before .before .before .before .is-bad-kind .ensures) ∙ c .before .before .before .before .if2 .left,
+  sym (c .before .before .before .has-bad-ids .ensures) ∙ c .before .before .if3 .left,
+  sym (c .before .is-guarded .ensures)
+      ∙ c .if4 .taken,
+)
 
 returns-5 : tie.Need-returns-5
-returns-5 c = simp (sym (c .before .before .before .before .before .before .before .is-bad-operation .ensures) ∙ c .before .before .before .before .before .before .if1 .left, sym (c .before .before .before .before .before .is-bad-kind .ensures) ∙ c .before .before .before .before .if2 .left, sym (c .before .before .before .has-bad-ids .ensures) ∙ c .before .before .if3 .left, sym (c .before .is-guarded .ensures) ∙ c .if4 .left)
+returns-5 c = simp (
+  sym (c .before .before .before .before .before .before .before .is-bad-operation .ensures)
+      ∙ c .before .before .before .before .before .before .if1 .left,
+  sym (c .before .before .before .before .before .is-bad-kind .ensures) ∙ c .before .before .before .before .if2 .left,
+  sym (c .before .before .before .has-bad-ids .ensures) ∙ c .before .before .if3 .left,
+  sym (c .before .is-guarded .ensures)
+      ∙ c .if4 .left,
+)
 
 pub form-refusal-spec : {M : Type 1} → statement M
 form-refusal-spec =

@@ -36,7 +36,16 @@ returns-9 : tie.Need-returns-9
 returns-9 c =
     let w = c .before .wide .ensures in
     let n = c .match .rest in
-    simp (wide-not w (n .0 .0 .0 .0 .0 .0 .0 .1), wide-not w (n .0 .0 .0 .0 .0 .0 .1), wide-not w (n .0 .0 .0 .0 .0 .1), wide-not w (n .0 .0 .0 .0 .1), wide-not w (n .0 .0 .0 .1), wide-not w (n .0 .0 .1), wide-not w (n .0 .1), wide-not w (n .1))
+    simp (
+      wide-not w (n .0 .0 .0 .0 .0 .0 .0 .1),
+      wide-not w (n .0 .0 .0 .0 .0 .0 .1),
+      wide-not w (n .0 .0 .0 .0 .0 .1),
+      wide-not w (n .0 .0 .0 .0 .1),
+      wide-not w (n .0 .0 .0 .1),
+      wide-not w (n .0 .0 .1),
+      wide-not w (n .0 .1),
+      wide-not w (n .1),
+    )
 
 pub is-bad-kind-spec : {M : Type 1} → statement M
 is-bad-kind-spec =

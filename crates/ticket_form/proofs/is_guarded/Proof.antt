@@ -20,13 +20,25 @@ is-resource-requires-3 : tie.Need-is-resource-requires-3
 is-resource-requires-3 c κs = search needs
 
 returns : tie.Need-returns
-returns c = simp (eq-eqb _ _ (c .before .before .before .if1 .taken), sym (c .before .before .wide .ensures) ∙ c .before .match .keys1) (c .is-resource .ensures ∙ sym (or-false _))
+returns c = simp (
+  eq-eqb _ _ (c .before .before .before .if1 .taken),
+  sym (c .before .before .wide .ensures)
+      ∙ c .before .match .keys1,
+) (c .is-resource .ensures ∙ sym (or-false _))
 
 returns-2 : tie.Need-returns-2
-returns-2 c = simp (eq-eqb _ _ (c .before .before .before .if1 .taken), sym (c .before .before .wide .ensures) ∙ c .before .match .keys2) (c .is-resource2 .ensures)
+returns-2 c = simp (
+  eq-eqb _ _ (c .before .before .before .if1 .taken),
+  sym (c .before .before .wide .ensures)
+      ∙ c .before .match .keys2,
+) (c .is-resource2 .ensures)
 
 returns-3 : tie.Need-returns-3
-returns-3 c = simp (eq-eqb _ _ (c .before .before .before .if1 .taken), sym (c .before .before .wide .ensures) ∙ c .before .match .keys3) (c .is-resource3 .ensures)
+returns-3 c = simp (
+  eq-eqb _ _ (c .before .before .before .if1 .taken),
+  sym (c .before .before .wide .ensures)
+      ∙ c .before .match .keys3,
+) (c .is-resource3 .ensures)
 
 returns-4 : tie.Need-returns-4
 returns-4 c =

@@ -18,7 +18,8 @@ returns : tie.Need-returns
 returns c =
     let d = c .before .before .before in
     let s = d .before .before .before .before .before .args in
-    way-unread (s .image .now) (s .ticket .now) (s .output .now) (d .read .result) (c .pack .result) (d .read .ensures .0) (c .before .if1 .taken) (c .pack .ensures)
+    way-unread (s .image .now) (s .ticket .now) (s .output .now) (d .read .result) (c .pack .result) (d .read .ensures .0)
+    (c .before .if1 .taken) (c .pack .ensures)
 
 slice-aggregate-apply-checked : tie.Need-slice-aggregate-apply-checked
 slice-aggregate-apply-checked c = search needs
@@ -37,7 +38,9 @@ returns-2 c =
     let e = c .before .before .before .before in
     let d = e .before .before .before .before in
     let s = d .before .before .before .before .before .args in
-    way-unapplied (s .image .now) (s .ticket .now) (s .output .now) (sym (d .read .ensures .0) ∙ e .before .before .if1 .left) (d .read .ensures .1) (e .apply-checked .result) (e .apply-checked .ensures) (c .pack2 .result) (c .before .if2 .taken) (c .pack2 .ensures)
+    way-unapplied (s .image .now) (s .ticket .now) (s .output .now) (sym (d .read .ensures .0) ∙ e .before .before .if1 .left)
+    (d .read .ensures .1) (e .apply-checked .result) (e .apply-checked .ensures) (c .pack2 .result) (c .before .if2 .taken)
+    (c .pack2 .ensures)
 
 slice-aggregate-write-checked : tie.Need-slice-aggregate-write-checked
 slice-aggregate-write-checked c = search needs
@@ -47,7 +50,8 @@ write-checked-requires c κs =
     let e = c .before .before .before .before .before in
     let d = e .before .before .before .before in
     let s = d .before .before .before .before .before .args in
-    left-table (s .ticket .now) (read-table (s .image .now) (d .read .result) (d .read .ensures .0) (e .before .before .if1 .left) (d .read .ensures .1)) (e .apply-checked .result) (e .apply-checked .ensures)
+    left-table (s .ticket .now) (read-table (s .image .now) (d .read .result) (d .read .ensures .0) (e .before .before .if1 .left)
+    (d .read .ensures .1)) (e .apply-checked .result) (e .apply-checked .ensures)
 
 pack-requires-3 : tie.Need-pack-requires-3
 pack-requires-3 c κs = search needs
@@ -61,8 +65,11 @@ returns-3 c =
     let e = w .before .before .before .before .before .before in
     let d = e .before .before .before .before in
     let s = d .before .before .before .before .before .args in
-    way-unwritten (s .image .now) (s .ticket .now) (s .output .now) (sym (d .read .ensures .0) ∙ e .before .before .if1 .left) (d .read .ensures .1) (e .apply-checked .result) (e .apply-checked .ensures) (w .before .before .before .if2 .left)
-    (w .write-checked .result .answer) (w .write-checked .result .length) (w .write-checked .last .1 .0) (w .write-checked .ensures .0) (w .write-checked .ensures .1) (w .write-checked .ensures .2) (c .pack3 .result) (c .before .if3 .taken) (c .pack3 .ensures)
+    way-unwritten (s .image .now) (s .ticket .now) (s .output .now) (sym (d .read .ensures .0) ∙ e .before .before .if1 .left)
+    (d .read .ensures .1) (e .apply-checked .result) (e .apply-checked .ensures) (w .before .before .before .if2 .left)
+    (w .write-checked .result .answer) (w .write-checked .result .length) (w .write-checked .last .1 .0)
+    (w .write-checked .ensures .0) (w .write-checked .ensures .1) (w .write-checked .ensures .2) (c .pack3 .result)
+    (c .before .if3 .taken) (c .pack3 .ensures)
 
 pack-requires-4 : tie.Need-pack-requires-4
 pack-requires-4 c κs = search needs
@@ -76,8 +83,11 @@ returns-4 c =
     let e = w .before .before .before .before .before .before in
     let d = e .before .before .before .before in
     let s = d .before .before .before .before .before .args in
-    way-done (s .image .now) (s .ticket .now) (s .output .now) (sym (d .read .ensures .0) ∙ e .before .before .if1 .left) (d .read .ensures .1) (e .apply-checked .result) (e .apply-checked .ensures) (w .before .before .before .if2 .left)
-    (w .write-checked .result .answer) (w .write-checked .result .length) (w .write-checked .last .1 .0) (w .write-checked .ensures .0) (w .write-checked .ensures .1) (w .write-checked .ensures .2) (c .pack4 .result) (c .before .if3 .left) (c .pack4 .ensures)
+    way-done (s .image .now) (s .ticket .now) (s .output .now) (sym (d .read .ensures .0) ∙ e .before .before .if1 .left)
+    (d .read .ensures .1) (e .apply-checked .result) (e .apply-checked .ensures) (w .before .before .before .if2 .left)
+    (w .write-checked .result .answer) (w .write-checked .result .length) (w .write-checked .last .1 .0)
+    (w .write-checked .ensures .0) (w .write-checked .ensures .1) (w .write-checked .ensures .2) (c .pack4 .result)
+    (c .before .if3 .left) (c .pack4 .ensures)
 
 pub vimelosa-apply-spec : {M : Type 1} → statement M
 vimelosa-apply-spec =

@@ -19,7 +19,8 @@ image-length-requires c κs = search needs
 returns : tie.Need-returns
 returns c =
     let s = c .before .before .before .before .before in
-    write-short (s .args .t .now) (s .args .output .now) (s .pre) (subst (λ m. length (s .args .output .now) < m) (c .before .image-length .ensures .0) (c .if1 .taken))
+    write-short (s .args .t .now) (s .args .output .now) (s .pre) (subst (λ m. length (s .args .output .now) < m)
+    (c .before .image-length .ensures .0) (c .if1 .taken))
 
 put-contents-requires : tie.Need-put-contents-requires
 put-contents-requires c κs = search needs
@@ -32,8 +33,12 @@ put-bodies-requires c κs =
     let s = at-count .before .before .before in
     let out : List ℕ = s .args .output .now in
     let writable = table-writable (s .pre) (at-count .count-facts .result) (at-count .count-facts .ensures) in
-    let fits = subst (λ m. m ≤ length out) (at-length .image-length .ensures .0) (at-contents .before .before .if1 .left) in
-    (writable, omega (arith, fits, at-contents .put-contents .kept), stored-first (s .args .t .now) (at-count .count-facts .result) writable out _ (at-contents .put-contents .ensures))
+    let fits = subst (λ m. m ≤ length out) (at-length .image-length .ensures .0) (at-contents .before .before .if1 .left) in (
+      writable,
+      omega (arith, fits, at-contents .put-contents .kept),
+      stored-first (s .args .t .now)
+          (at-count .count-facts .result) writable out _ (at-contents .put-contents .ensures),
+    )
 
 cast-t12 : tie.Need-cast-t12
 cast-t12 c = search needs
@@ -53,7 +58,8 @@ returns-2 c =
     let writable = table-writable (s .pre) (at-count .count-facts .result) (at-count .count-facts .ensures) in
     let fits = subst (λ m. m ≤ length out) (at-length .image-length .ensures .0) (at-contents .before .before .if1 .left) in
     write-done t out (s .pre) fits (at-length .image-length .result) (at-length .image-length .ensures .0) _
-    (at-bodies .put-bodies .ensures ∙ ap (λ m. tableImage t ++ m) (stored-after t (at-count .count-facts .result) writable out _ (at-contents .put-contents .ensures)))
+    (at-bodies .put-bodies .ensures ∙ ap (λ m. tableImage t ++ m) (stored-after t (at-count .count-facts .result) writable out _
+    (at-contents .put-contents .ensures)))
 
 pub write-checked-spec : {M : Type 1} → statement M
 write-checked-spec =

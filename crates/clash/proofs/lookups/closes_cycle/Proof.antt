@@ -24,7 +24,8 @@ returns-3 c =
     let joined = c .before in
     let needed = joined .before .before in
     and-rest (ap not (ne-eqb _ _ (needed .before .if1 .left)))
-    (and-rest (ap not (ne-eqb _ _ (needed .if2 .left))) (and-rest (told (joined .before .is-under .ensures) (joined .if3 .taken)) (c .is-under2 .ensures)))
+    (and-rest (ap not (ne-eqb _ _ (needed .if2 .left))) (and-rest (told (joined .before .is-under .ensures) (joined .if3 .taken))
+    (c .is-under2 .ensures)))
 
 returns-4 : tie.Need-returns-4
 returns-4 c =

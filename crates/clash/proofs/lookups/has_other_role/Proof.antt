@@ -14,7 +14,8 @@ has-role-besides-requires-2 : tie.Need-has-role-besides-requires-2
 has-role-besides-requires-2 c κs = search needs
 
 returns-2 : tie.Need-returns-2
-returns-2 c = or-second (c .before .before .before .has-role-besides .ensures) (or-first _ (told (c .before .has-role-besides2 .ensures) (c .if2 .taken)))
+returns-2 c = or-second (c .before .before .before .has-role-besides .ensures)
+    (or-first _ (told (c .before .has-role-besides2 .ensures) (c .if2 .taken)))
 
 has-role-besides-requires-3 : tie.Need-has-role-besides-requires-3
 has-role-besides-requires-3 c κs = search needs
@@ -35,7 +36,8 @@ returns-4 c =
     let class = property .before .before in
     or-rest (told (class .before .has-role-besides .ensures) (class .if1 .left))
     (or-rest (told (property .before .has-role-besides2 .ensures) (property .if2 .left))
-    (or-rest (told (individual .before .has-role-besides3 .ensures) (individual .if3 .left)) (or-last (c .has-role-besides4 .ensures))))
+    (or-rest (told (individual .before .has-role-besides3 .ensures) (individual .if3 .left))
+    (or-last (c .has-role-besides4 .ensures))))
 
 pub has-other-role-spec : {M : Type 1} → statement M
 has-other-role-spec =

@@ -47,7 +47,13 @@ returns-6 : tie.Need-returns-6
 unfolding lookupClash
 returns-6 c =
     let kinds = c .before .match .rest in
-    simp (ne-eqb _ _ (kinds .1), ne-eqb _ _ (kinds .0 .1), ne-eqb _ _ (kinds .0 .0 .1), ne-eqb _ _ (kinds .0 .0 .0 .1), ne-eqb _ _ (kinds .0 .0 .0 .0 .1)) (c .has-other-role .ensures)
+    simp (
+      ne-eqb _ _ (kinds .1),
+      ne-eqb _ _ (kinds .0 .1),
+      ne-eqb _ _ (kinds .0 .0 .1),
+      ne-eqb _ _ (kinds .0 .0 .0 .1),
+      ne-eqb _ _ (kinds .0 .0 .0 .0 .1),
+    ) (c .has-other-role .ensures)
 
 pub clashes-spec : {M : Type 1} → statement M
 clashes-spec =

@@ -14,7 +14,8 @@ is-backwards-requires : tie.Need-is-backwards-requires
 is-backwards-requires c κs = search needs
 
 returns-2 : tie.Need-returns-2
-returns-2 c = or-second (c .before .before .before .is-mixed .ensures) (or-first _ (told (c .before .is-backwards .ensures) (c .if2 .taken)))
+returns-2 c = or-second (c .before .before .before .is-mixed .ensures)
+    (or-first _ (told (c .before .is-backwards .ensures) (c .if2 .taken)))
 
 is-backwards-requires-2 : tie.Need-is-backwards-requires-2
 is-backwards-requires-2 c κs = search needs

@@ -23,7 +23,8 @@ returns c =
 returns-2 : tie.Need-returns-2
 returns-2 c =
     let property = c .before .before in
-    and-rest (told (property .before .has-fact .ensures) (property .if1 .taken)) (and-first _ (told (c .before .has-fact2 .ensures) (c .if2 .left)))
+    and-rest (told (property .before .has-fact .ensures) (property .if1 .taken))
+    (and-first _ (told (c .before .has-fact2 .ensures) (c .if2 .left)))
 
 returns-3 : tie.Need-returns-3
 returns-3 c = and-first _ (told (c .before .has-fact .ensures) (c .if1 .left))

@@ -15,7 +15,8 @@ has-fact-requires : tie.Need-has-fact-requires
 has-fact-requires c κs = search needs
 
 returns-3 : tie.Need-returns-3
-returns-3 c = or-rest (ne-eqb _ _ (c .before .before .if1 .left)) (or-rest (ne-eqb _ _ (c .before .if2 .left)) (c .has-fact .ensures))
+returns-3 c =
+    or-rest (ne-eqb _ _ (c .before .before .if1 .left)) (or-rest (ne-eqb _ _ (c .before .if2 .left)) (c .has-fact .ensures))
 
 pub is-no-link-spec : {M : Type 1} → statement M
 is-no-link-spec = tie.close (tie.spec returns returns-2 has-fact-requires returns-3)

@@ -14,12 +14,14 @@ has-other-role-requires c κs = search needs
 returns : tie.Need-returns
 returns c =
     let literal = c .before .before in
-    cond-then _ (told (literal .before .has-fact .ensures) (literal .if1 .taken)) (or-first _ (told (c .before .has-other-role .ensures) (c .if2 .taken)))
+    cond-then _ (told (literal .before .has-fact .ensures) (literal .if1 .taken))
+    (or-first _ (told (c .before .has-other-role .ensures) (c .if2 .taken)))
 
 returns-2 : tie.Need-returns-2
 returns-2 c =
     let literal = c .before .before in
-    cond-then _ (told (literal .before .has-fact .ensures) (literal .if1 .taken)) (or-rest (told (c .before .has-other-role .ensures) (c .if2 .left)) refl)
+    cond-then _ (told (literal .before .has-fact .ensures) (literal .if1 .taken))
+    (or-rest (told (c .before .has-other-role .ensures) (c .if2 .left)) refl)
 
 has-other-role-requires-2 : tie.Need-has-other-role-requires-2
 has-other-role-requires-2 c κs = search needs

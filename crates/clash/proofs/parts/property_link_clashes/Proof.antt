@@ -12,7 +12,8 @@ use Rattle.table.proofs.InTurn.{told, or-first, or-rest}
 use Rattle.clash.proofs.parts.property_link_clashes.Statement.{statement}
 use Rattle.clash.proofs.parts.property_link_clashes.Tie as tie
 
-ends-same : (K : List Fact) {x y z w x′ y′ z′ w′ : ℕ} → x ≡ x′ → y ≡ y′ → z ≡ z′ → w ≡ w′ → endsClash K x y z w ≡ endsClash K x′ y′ z′ w′
+ends-same : (K : List Fact) {x y z w x′ y′ z′ w′ : ℕ} → x ≡ x′ → y ≡ y′ → z ≡ z′ → w ≡ w′
+    → endsClash K x y z w ≡ endsClash K x′ y′ z′ w′
 ends-same K p q r s = rw (p, q, r, s) refl
 
 returns : tie.Need-returns
@@ -22,7 +23,8 @@ has-fact-requires : tie.Need-has-fact-requires
 has-fact-requires c κs = search needs
 
 returns-2 : tie.Need-returns-2
-returns-2 c = or-rest (ne-eqb _ _ (c .before .before .if1 .left)) (or-first _ (told (c .before .has-fact .ensures) (c .if2 .taken)))
+returns-2 c =
+    or-rest (ne-eqb _ _ (c .before .before .if1 .left)) (or-first _ (told (c .before .has-fact .ensures) (c .if2 .taken)))
 
 first-b-requires : tie.Need-first-b-requires
 first-b-requires c κs = search needs
@@ -47,7 +49,8 @@ returns-3 c =
     or-rest (ne-eqb _ _ (back .before .before .if1 .left))
     (or-rest (told (back .before .has-fact .ensures) (back .if2 .left))
     (c .ends-clash .ensures
-    ∙ ends-same (factsOf (now (s .args .t))) (domains .before .first-b .ensures .0) (domains .first-b2 .ensures .0) (c .before .before .first-b3 .ensures .0) (c .before .first-b4 .ensures .0)))
+    ∙ ends-same (factsOf (now (s .args .t))) (domains .before .first-b .ensures .0) (domains .first-b2 .ensures .0)
+    (c .before .before .first-b3 .ensures .0) (c .before .first-b4 .ensures .0)))
 
 pub property-link-clashes-spec : {M : Type 1} → statement M
 property-link-clashes-spec =

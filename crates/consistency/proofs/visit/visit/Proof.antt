@@ -1,13 +1,13 @@
--- `visit::visit` meets its contract. The loop's invariant: each rule before place `i` is met. The measure is the number of rules left. Assumes
--- nothing.
+-- `visit::visit` meets its contract. The loop's invariant: each rule before place `i` is met. The measure is the number of rules
+-- left. Assumes nothing.
 use Prim.Native.Nat.{_-_}
 use native.Mathlib.Omega.{arith}
 use borrow.Author.Needs.{needs}
 use denote.Ref.{now}
 use Rattle.rdfs.specs.Rules.{Meets}
-use Rattle.runs.specs.Graphs.{graphOf}
+use Rattle.spans.specs.Graphs.{graphOf}
 use Rattle.consistency.specs.Order.{rulesInOrder, ruleAt}
-use Rattle.runs.proofs.Decided.{decided-met, decided-broken}
+use Rattle.spans.proofs.Decided.{decided-met, decided-broken}
 use Rattle.consistency.proofs.Visiting.{MetBefore, visit-none, visit-more, visit-stops, visit-ends, visit-earlier}
 use Rattle.consistency.proofs.visit.visit.Statement.{statement}
 use Rattle.consistency.proofs.visit.visit.Tie as tie
@@ -27,8 +27,11 @@ rule-at-requires c κs = search needs
 meets-requires : tie.Need-meets-requires Inv-loop μ-loop
 meets-requires c κs =
     let at-loop = c .before .before in
-    let entry = at-loop .before .before .before in
-    (entry .pre, rw (c .rule-at .ensures) (visit-earlier (graphOf (now (entry .args .t))) (at-loop .loop .i) (c .before .loop-test .taken) (at-loop .loop .inv)))
+    let entry = at-loop .before .before .before in (
+      entry .pre,
+      rw (c .rule-at .ensures) (visit-earlier (graphOf (now (entry .args .t))) (at-loop .loop .i)
+          (c .before .loop-test .taken) (at-loop .loop .inv)),
+    )
 
 returns : tie.Need-returns Inv-loop μ-loop
 returns c =
@@ -38,7 +41,8 @@ returns c =
     let i = at-loop .loop .i in
     let answer = rw (c .before .before .rule-at .ensures) at (c .before .meets .ensures) in
     rw (c .before .before .rule-at .ensures)
-    (visit-stops G rulesInOrder i (c .before .before .before .loop-test .taken) (at-loop .loop .inv) (decided-broken (c .before .meets .result) (Meets G (ruleAt rulesInOrder i)) answer (c .if1 .taken)))
+    (visit-stops G rulesInOrder i (c .before .before .before .loop-test .taken) (at-loop .loop .inv)
+    (decided-broken (c .before .meets .result) (Meets G (ruleAt rulesInOrder i)) answer (c .if1 .taken)))
 
 add-i : tie.Need-add-i Inv-loop μ-loop
 add-i c = omega arith
@@ -53,7 +57,8 @@ loop-again c =
     let G = graphOf (now (entry .args .t)) in
     let i = at-loop .loop .i in
     let answer = rw (c .before .before .rule-at .ensures) at (c .before .meets .ensures) in
-    visit-more G rulesInOrder i (at-loop .loop .inv) (decided-met (c .before .meets .result) (Meets G (ruleAt rulesInOrder i)) answer (c .if1 .left))
+    visit-more G rulesInOrder i (at-loop .loop .inv) (decided-met (c .before .meets .result) (Meets G (ruleAt rulesInOrder i))
+    answer (c .if1 .left))
 
 returns-2 : tie.Need-returns-2 Inv-loop μ-loop
 returns-2 c =

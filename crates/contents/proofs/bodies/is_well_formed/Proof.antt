@@ -13,10 +13,15 @@ is-rising-requires : tie.Need-is-rising-requires
 is-rising-requires c κs = decides-true (c .before .has-contents .result) (c .before .has-contents .ensures) (c .if1 .taken)
 
 returns : tie.Need-returns
-returns c = rising-well (c .before .before .before .before .args .image .now) (λ i. omega (arith, c .before .before .before .shared-slice-known .given i)) (decides-true (c .before .before .has-contents .result) (c .before .before .has-contents .ensures) (c .before .if1 .taken)) (c .is-rising .result) (c .is-rising .ensures)
+returns c = rising-well (c .before .before .before .before .args .image .now)
+    (λ i. omega (arith, c .before .before .before .shared-slice-known .given i))
+    (decides-true (c .before .before .has-contents .result) (c .before .before .has-contents .ensures) (c .before .if1 .taken))
+    (c .is-rising .result) (c .is-rising .ensures)
 
 returns-2 : tie.Need-returns-2
-returns-2 c = wrong-malformed (c .before .before .before .args .image .now) (λ i. omega (arith, c .before .before .shared-slice-known .given i)) (decides-false (c .before .has-contents .result) (c .before .has-contents .ensures) (c .if1 .left))
+returns-2 c = wrong-malformed (c .before .before .before .args .image .now)
+    (λ i. omega (arith, c .before .before .shared-slice-known .given i)) (decides-false (c .before .has-contents .result)
+    (c .before .has-contents .ensures) (c .if1 .left))
 
 pub is-well-formed-spec : {M : Type 1} → statement M
 is-well-formed-spec =

@@ -19,7 +19,11 @@ number-at-requires : tie.Need-number-at-requires
 number-at-requires c κs = search needs
 
 returns : tie.Need-returns
-returns c = (c .number-at .ensures .0 ∙ ap (λ i. numberAt 2 (c .before .before .before .args .image .now) (i + 2 + 2)) (c .before .entry-at .ensures), c .number-at .ensures .1)
+returns c = (
+  c .number-at .ensures .0 ∙ ap (λ i. numberAt 2 (c .before .before .before .args .image .now) (i + 2 + 2))
+      (c .before .entry-at .ensures),
+  c .number-at .ensures .1,
+)
 
 pub count-at-spec : {M : Type 1} → statement M
 count-at-spec =

@@ -9,7 +9,12 @@ use Rattle.contents.proofs.entries.has_contents.Statement.{statement}
 use Rattle.contents.proofs.entries.has_contents.Tie as tie
 
 returns : tie.Need-returns
-returns c = λ h. omega (arith, c .if1 .taken, chained-within form (c .before .before .args .image .now) (form .entries) 0 (firstBody form) (h .linked .chain))
+returns c = λ h. omega (
+  arith,
+  c .if1 .taken,
+  chained-within form (c .before .before .args .image .now) (form .entries) 0
+      (firstBody form) (h .linked .chain),
+)
 
 byte-at-requires : tie.Need-byte-at-requires
 byte-at-requires c κs = search needs
@@ -32,7 +37,11 @@ is-chained-requires c κs = search needs
 returns-4 : tie.Need-returns-4
 returns-4 c =
     decides-as (c .is-chained .result) (c .is-chained .ensures)
-    (λ l. record { edition = sym (c .before .before .before .before .byte-at .ensures .0) ∙ c .before .before .before .if2 .left; entries = sym (c .before .before .byte-at2 .ensures .0) ∙ c .before .if3 .left; linked = l })
+    (λ l. record {
+      edition = sym (c .before .before .before .before .byte-at .ensures .0) ∙ c .before .before .before .if2 .left;
+      entries = sym (c .before .before .byte-at2 .ensures .0) ∙ c .before .if3 .left;
+      linked = l;
+    })
     (λ h. h .linked)
 
 pub has-contents-spec : {M : Type 1} → statement M

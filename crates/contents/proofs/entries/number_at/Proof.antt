@@ -21,7 +21,16 @@ add-result : tie.Need-add-result
 add-result c = search needs
 
 returns : tie.Need-returns
-returns c = (omega (arith, c .before .byte-at .ensures .0, c .byte-at2 .ensures .0, number-two (c .before .before .before .args .image .now) (c .before .before .before .args .i) (c .before .before .before .pre)), omega (arith, c .before .byte-at .ensures .1, c .byte-at2 .ensures .1))
+returns c = (
+  omega (
+    arith,
+    c .before .byte-at .ensures .0,
+    c .byte-at2 .ensures .0,
+    number-two (c .before .before .before .args .image .now) (c .before .before .before .args .i)
+        (c .before .before .before .pre),
+  ),
+  omega (arith, c .before .byte-at .ensures .1, c .byte-at2 .ensures .1),
+)
 
 pub number-at-spec : {M : Type 1} → statement M
 number-at-spec =

@@ -16,7 +16,8 @@ number-at-requires : tie.Need-number-at-requires
 number-at-requires c κs = search needs
 
 returns : tie.Need-returns
-returns c = c .number-at .ensures .0 ∙ ap (λ i. numberAt 2 (c .before .before .before .args .image .now) (i + 2)) (c .before .entry-at .ensures)
+returns c = c .number-at .ensures .0 ∙ ap (λ i. numberAt 2 (c .before .before .before .args .image .now) (i + 2))
+    (c .before .entry-at .ensures)
 
 pub start-at-spec : {M : Type 1} → statement M
 start-at-spec = tie.close (tie.spec entry-at-requires add-number-at number-at-requires returns)

@@ -26,8 +26,11 @@ same-length-2 c = search needs
 returns-2 : tie.Need-returns-2
 returns-2 c =
     let asked = c .before .before .check .ensures in
-    let w = now (c .before .before .before .before .before .args .table) in
-    (sym (table-passes product w (checked-table product w (sym asked ∙ c .before .if1 .left)) _ ∙ ap (λ b. orElse b 14 0) (lt-ltb _ _ (c .if2 .taken))), refl)
+    let w = now (c .before .before .before .before .before .args .table) in (
+      sym (table-passes product w (checked-table product w (sym asked ∙ c .before .if1 .left)) _
+          ∙ ap (λ b. orElse b 14 0) (lt-ltb _ _ (c .if2 .taken))),
+      refl,
+    )
 
 same-length-3 : tie.Need-same-length-3
 same-length-3 c = search needs
@@ -35,8 +38,11 @@ same-length-3 c = search needs
 returns-3 : tie.Need-returns-3
 returns-3 c =
     let asked = c .before .before .check .ensures in
-    let w = now (c .before .before .before .before .before .args .table) in
-    (sym (table-passes product w (checked-table product w (sym asked ∙ c .before .if1 .left)) _ ∙ ap (λ b. orElse b 14 0) (le-ltb _ _ (c .if2 .left))), refl)
+    let w = now (c .before .before .before .before .before .args .table) in (
+      sym (table-passes product w (checked-table product w (sym asked ∙ c .before .if1 .left)) _
+          ∙ ap (λ b. orElse b 14 0) (le-ltb _ _ (c .if2 .left))),
+      refl,
+    )
 
 pub list-refusal-spec : {M : Type 1} → statement M
 list-refusal-spec =

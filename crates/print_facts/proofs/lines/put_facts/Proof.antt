@@ -28,7 +28,8 @@ returns c =
     let put = c .before .before in
     let reading = put .before .before .before .before .read in
     let image = now (put .before .before .before .before .before .before .before .before .args .image) in
-    subst (λ l. Printed l (put .put-lines .result) (put .put-lines .last .1 .0)) (ap filled (reading .ensures .1) ∙ filled-read image) (put .put-lines .ensures)
+    subst (λ l. Printed l (put .put-lines .result) (put .put-lines .last .1 .0)) (ap filled (reading .ensures .1)
+    ∙ filled-read image) (put .put-lines .ensures)
 
 pub put-facts-spec : {M : Type 1} → statement M
 put-facts-spec =

@@ -1,5 +1,5 @@
--- `put_lines`: the invariant is `Gathered`, that the lines of the facts before place i are gathered. The measure is the words that are left.
--- Assumes nothing.
+-- `put_lines`: the invariant is `Gathered`, that the lines of the facts before place i are gathered. The measure is the words
+-- that are left. Assumes nothing.
 use Prim.Native.Nat.{_-_, _≤_}
 use mathlib.Core.Path.{_≡_, refl, ap, _∙_}
 use mathlib.Core.Logic.{⊎-elim}
@@ -7,7 +7,14 @@ use native.Mathlib.Omega.{arith}
 use lib.ListN.{length}
 use borrow.Author.Needs.{needs}
 use denote.Ref.{now}
-use Rattle.print_facts.proofs.Gathering.{Gathered, gathered-start, gathered-zero, gathered-more, gathered-same, gathered-done}
+use Rattle.print_facts.proofs.Gathering.{
+  Gathered,
+  gathered-start,
+  gathered-zero,
+  gathered-more,
+  gathered-same,
+  gathered-done,
+}
 use Rattle.print_facts.proofs.lines.put_lines.Statement.{statement}
 use Rattle.print_facts.proofs.lines.put_lines.Tie as tie
 
@@ -47,8 +54,17 @@ loop-again c =
     let t = now (at-loop .before .before .before .args .t) in
     let before = at-loop .loop .inv in
     ⊎-elim
-    (λ w. (search needs, ap length (w .5) ∙ (w .2 .kept .0 ∙ before .1), gathered-same t (w .5) (w .6) (gathered-more t (before .2) inside (w .0 .taken) (w .2 .ensures))))
-    (λ w. (search needs, ap length (w .1) ∙ before .1, gathered-same t (w .1) (w .2) (gathered-zero t (before .2) inside (w .0 .left)))) (c .if1 .came)
+    (λ w. (
+      search needs,
+      ap length (w .5) ∙ (w .2 .kept .0 ∙ before .1),
+      gathered-same t (w .5) (w .6) (gathered-more t (before .2) inside (w .0 .taken) (w .2 .ensures)),
+    ))
+    (λ w. (
+      search needs,
+      ap length (w .1) ∙ before .1,
+      gathered-same t (w .1) (w .2) (gathered-zero t (before .2) inside
+          (w .0 .left)),
+    )) (c .if1 .came)
 
 same-length : tie.Need-same-length Inv-loop μ-loop
 same-length c = search needs
@@ -57,7 +73,8 @@ returns : tie.Need-returns Inv-loop μ-loop
 returns c =
     let at-loop = c .before in
     let s = at-loop .before .before .before in
-    gathered-done (now (s .args .t)) (at-loop .loop .inv .2) (at-loop .loop .inv .0) (c .loop-test .left) (omega (arith, at-loop .loop .inv .1, s .pre))
+    gathered-done (now (s .args .t)) (at-loop .loop .inv .2) (at-loop .loop .inv .0) (c .loop-test .left)
+    (omega (arith, at-loop .loop .inv .1, s .pre))
 
 pub put-lines-spec : {M : Type 1} → statement M
 put-lines-spec =

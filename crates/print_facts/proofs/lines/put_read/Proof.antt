@@ -12,7 +12,8 @@ returns : tie.Need-returns
 returns c = (omega arith, none-printed (c .before .before .before .pre) (search needs))
 
 slice-aggregate-put-facts : tie.Need-slice-aggregate-put-facts
-slice-aggregate-put-facts c = sym (length-take-le _ (now (c .before .before .before .before .args .buffer)) (c .before .before .before .before .pre .within))
+slice-aggregate-put-facts c = sym (length-take-le _ (now (c .before .before .before .before .args .buffer))
+    (c .before .before .before .before .pre .within))
 
 put-facts-requires : tie.Need-put-facts-requires
 put-facts-requires c κs = c .before .before .before .before .before .pre .room
@@ -22,8 +23,11 @@ same-length c = search needs
 
 returns-2 : tie.Need-returns-2
 returns-2 c =
-    let facts = c .before .before .put-facts in
-    (facts .ensures .within, whole-printed (c .before .before .before .before .before .before .before .before .pre) (search needs) (facts .ensures))
+    let facts = c .before .before .put-facts in (
+      facts .ensures .within,
+      whole-printed (c .before .before .before .before .before .before .before .before .pre) (search needs)
+          (facts .ensures),
+    )
 
 pub put-read-spec : {M : Type 1} → statement M
 put-read-spec =

@@ -1,4 +1,5 @@
--- `reader::count_words`. The loop's invariant is `Passed`: as many words as the kinds passed have. The measure is the number of kinds left. Assumes nothing.
+-- `reader::count_words`. The loop's invariant is `Passed`: as many words as the kinds passed have. The measure is the number of
+-- kinds left. Assumes nothing.
 use native.Mathlib.Omega.{arith}
 use Prim.Native.Nat.{_-_}
 use Rattle.contents.specs.Form.{form}
@@ -20,7 +21,11 @@ add-k : tie.Need-add-k Inv-loop μ-loop
 add-k c = omega (arith, c .loop-test .taken)
 
 count-at-requires : tie.Need-count-at-requires Inv-loop μ-loop
-count-at-requires c κs = (omega arith, omega (arith, c .loop-test .taken), contents-within form (c .before .before .before .args .image .now) (c .before .before .before .pre))
+count-at-requires c κs = (
+  omega arith,
+  omega (arith, c .loop-test .taken),
+  contents-within form (c .before .before .before .args .image .now) (c .before .before .before .pre),
+)
 
 add-total : tie.Need-add-total Inv-loop μ-loop
 add-total c = omega (arith, c .before .before .loop .inv .small, c .count-at .ensures .1, c .before .loop-test .taken)
@@ -29,7 +34,8 @@ loop-less : tie.Need-loop-less Inv-loop μ-loop
 loop-less c = omega (arith, c .before .loop-test .taken)
 
 loop-again : tie.Need-loop-again Inv-loop μ-loop
-loop-again c = passed-more (c .before .before .loop .inv) (c .before .loop-test .taken) _ (c .count-at .ensures .0) (c .count-at .ensures .1)
+loop-again c = passed-more (c .before .before .loop .inv) (c .before .loop-test .taken) _ (c .count-at .ensures .0)
+    (c .count-at .ensures .1)
 
 returns : tie.Need-returns Inv-loop μ-loop
 returns c = passed-all (c .before .loop .inv) (c .loop-test .left)

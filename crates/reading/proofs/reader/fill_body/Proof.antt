@@ -1,4 +1,5 @@
--- `reader::fill_body`. The loop's invariant is `Stored`: the first i words stand in their places. The measure is the number of facts left. Assumes nothing.
+-- `reader::fill_body`. The loop's invariant is `Stored`: the first i words stand in their places. The measure is the number of
+-- facts left. Assumes nothing.
 use native.Mathlib.Omega.{arith}
 use Prim.Native.Nat.{_-_}
 use Rattle.reading.proofs.Filling.{Stored, stored-start, stored-length, stored-more, stored-end}
@@ -21,8 +22,12 @@ loop-holds c = stored-start _ _ _ _ _ _
 
 word-at-requires : tie.Need-word-at-requires Inv-loop μ-loop
 word-at-requires c κs =
-    let start = c .before .before .before .before .before in
-    (start .pre .0, start .pre .1, fact-within (start .args .k) _ _ _ _ _ (c .before .loop .inv .at) (c .loop-test .taken) (start .pre .2))
+    let start = c .before .before .before .before .before in (
+      start .pre .0,
+      start .pre .1,
+      fact-within (start .args .k) _ _ _ _ _ (c .before .loop .inv .at) (c .loop-test .taken)
+          (start .pre .2),
+    )
 
 add-t : tie.Need-add-t Inv-loop μ-loop
 add-t c = omega (arith, c .before .loop-test .taken, c .before .before .before .before .before .before .pre .3)
@@ -31,12 +36,22 @@ mul-t : tie.Need-mul-t Inv-loop μ-loop
 mul-t c = omega arith
 
 slice-write-t : tie.Need-slice-write-t Inv-loop μ-loop
-slice-write-t c = omega (arith, c .before .loop-test .taken, c .before .before .before .before .before .before .pre .3, stored-length _ _ _ _ (c .before .before .loop .inv) (c .before .before .before .before .before .before .pre .3))
+slice-write-t c = omega (
+  arith,
+  c .before .loop-test .taken,
+  c .before .before .before .before .before .before .pre .3,
+  stored-length _ _ _ _ (c .before .before .loop .inv) (c .before .before .before .before .before .before .pre .3),
+)
 
 add-p : tie.Need-add-p Inv-loop μ-loop
 add-p c =
     let start = c .before .before .before .before .before .before in
-    omega (arith, c .before .before .before .fact-size .ensures .0, fact-within (start .args .k) _ _ _ _ _ (c .before .before .loop .inv .at) (c .before .loop-test .taken) (start .pre .2))
+    omega (
+      arith,
+      c .before .before .before .fact-size .ensures .0,
+      fact-within (start .args .k) _ _ _ _ _
+          (c .before .before .loop .inv .at) (c .before .loop-test .taken) (start .pre .2),
+    )
 
 add-i : tie.Need-add-i Inv-loop μ-loop
 add-i c = omega (arith, c .before .loop-test .taken)
@@ -45,7 +60,8 @@ loop-less : tie.Need-loop-less Inv-loop μ-loop
 loop-less c = omega (arith, c .before .loop-test .taken)
 
 loop-again : tie.Need-loop-again Inv-loop μ-loop
-loop-again c = stored-more _ _ _ _ (c .before .before .loop .inv) (c .before .before .before .before .before .before .pre .3) (c .before .loop-test .taken) _ (c .word-at .ensures) _ (c .before .before .before .fact-size .ensures .0)
+loop-again c = stored-more _ _ _ _ (c .before .before .loop .inv) (c .before .before .before .before .before .before .pre .3)
+    (c .before .loop-test .taken) _ (c .word-at .ensures) _ (c .before .before .before .fact-size .ensures .0)
 
 same-length : tie.Need-same-length Inv-loop μ-loop
 same-length c = stored-length _ _ _ _ (c .before .loop .inv) (c .before .before .before .before .before .pre .3)

@@ -1,4 +1,5 @@
--- `reader::fill_words`. The loop's invariant is `Filled`: the words of the kinds passed stand in their places. The measure is the number of kinds left. Assumes nothing.
+-- `reader::fill_words`. The loop's invariant is `Filled`: the words of the kinds passed stand in their places. The measure is the
+-- number of kinds left. Assumes nothing.
 use native.Mathlib.Omega.{arith}
 use Prim.Native.Nat.{_-_, _+_}
 use Rattle.contents.specs.Form.{form}
@@ -20,27 +21,49 @@ add-k : tie.Need-add-k Inv-loop μ-loop
 add-k c = omega (arith, c .loop-test .taken)
 
 start-at-requires : tie.Need-start-at-requires Inv-loop μ-loop
-start-at-requires c κs = (omega arith, omega (arith, c .loop-test .taken), contents-within form (c .before .before .before .before .args .image .now) (c .before .before .before .before .pre .0))
+start-at-requires c κs = (
+  omega arith,
+  omega (arith, c .loop-test .taken),
+  contents-within form (c .before .before .before .before .args .image .now) (c .before .before .before .before .pre .0),
+)
 
 count-at-requires : tie.Need-count-at-requires Inv-loop μ-loop
-count-at-requires c κs = (omega arith, omega (arith, c .before .loop-test .taken), contents-within form (c .before .before .before .before .before .args .image .now) (c .before .before .before .before .before .pre .0))
+count-at-requires c κs = (
+  omega arith,
+  omega (arith, c .before .loop-test .taken),
+  contents-within form (c .before .before .before .before .before .args .image .now)
+      (c .before .before .before .before .before .pre .0),
+)
 
 fill-body-requires : tie.Need-fill-body-requires Inv-loop μ-loop
 fill-body-requires c κs = (
   omega arith,
   omega (arith, c .before .before .before .loop-test .taken),
-  body-placed form (c .before .before .before .before .before .before .before .args .image .now) (c .before .before .before .before .before .before .before .pre .0) (c .before .before .before .before .loop .done + 1) _ _ (omega arith) (omega (arith, c .before .before .before .loop-test .taken)) (c .before .before .start-at .ensures) (c .before .count-at .ensures .0),
-  filled-room (c .before .before .before .before .loop .inv) (c .before .before .before .before .before .before .before .pre .1) (c .before .before .before .loop-test .taken) _ _ (c .before .before .start-at .ensures) (c .before .count-at .ensures .0),
+  body-placed form (c .before .before .before .before .before .before .before .args .image .now)
+      (c .before .before .before .before .before .before .before .pre .0) (c .before .before .before .before .loop .done + 1) _ _
+      (omega arith) (omega (arith, c .before .before .before .loop-test .taken)) (c .before .before .start-at .ensures)
+      (c .before .count-at .ensures .0),
+  filled-room (c .before .before .before .before .loop .inv) (c .before .before .before .before .before .before .before .pre .1)
+      (c .before .before .before .loop-test .taken) _ _ (c .before .before .start-at .ensures) (c .before .count-at .ensures .0),
 )
 
 add-place : tie.Need-add-place Inv-loop μ-loop
-add-place c = omega (arith, c .before .before .before .before .before .before .before .loop .inv .passed .small, c .before .before .before .before .count-at .ensures .1, c .before .before .before .before .before .before .loop-test .taken)
+add-place c = omega (
+  arith,
+  c .before .before .before .before .before .before .before .loop .inv .passed .small,
+  c .before .before .before .before .count-at .ensures .1,
+  c .before .before .before .before .before .before .loop-test .taken,
+)
 
 loop-less : tie.Need-loop-less Inv-loop μ-loop
 loop-less c = omega (arith, c .before .before .before .before .before .before .loop-test .taken)
 
 loop-again : tie.Need-loop-again Inv-loop μ-loop
-loop-again c = filled-more (c .before .before .before .before .before .before .before .loop .inv) (c .before .before .before .before .before .before .before .before .before .before .pre .1) (c .before .before .before .before .before .before .loop-test .taken) _ _ (c .before .before .before .before .before .start-at .ensures) (c .before .before .before .before .count-at .ensures .0) (c .before .before .before .before .count-at .ensures .1) _ (c .before .before .fill-body .ensures)
+loop-again c = filled-more (c .before .before .before .before .before .before .before .loop .inv)
+    (c .before .before .before .before .before .before .before .before .before .before .pre .1)
+    (c .before .before .before .before .before .before .loop-test .taken) _ _
+    (c .before .before .before .before .before .start-at .ensures) (c .before .before .before .before .count-at .ensures .0)
+    (c .before .before .before .before .count-at .ensures .1) _ (c .before .before .fill-body .ensures)
 
 same-length : tie.Need-same-length Inv-loop μ-loop
 same-length c = filled-length (c .before .loop .inv) (c .before .before .before .before .pre .1)

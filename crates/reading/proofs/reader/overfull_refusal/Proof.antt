@@ -16,14 +16,16 @@ returns c =
     let at-call = c .before in
     let known = at-call .before .shared-slice-known .given in
     let s = at-call .before .before in
-    sym (ap (λ m. orElse m 12 11) (right-malformed (s .args .image .now) (λ i. omega (arith, known i)) (s .pre) ∙ ap not (sym (at-call .is-rising .ensures) ∙ c .if1 .taken)))
+    sym (ap (λ m. orElse m 12 11) (right-malformed (s .args .image .now) (λ i. omega (arith, known i)) (s .pre)
+    ∙ ap not (sym (at-call .is-rising .ensures) ∙ c .if1 .taken)))
 
 returns-2 : tie.Need-returns-2
 returns-2 c =
     let at-call = c .before in
     let known = at-call .before .shared-slice-known .given in
     let s = at-call .before .before in
-    sym (ap (λ m. orElse m 12 11) (right-malformed (s .args .image .now) (λ i. omega (arith, known i)) (s .pre) ∙ ap not (sym (at-call .is-rising .ensures) ∙ c .if1 .left)))
+    sym (ap (λ m. orElse m 12 11) (right-malformed (s .args .image .now) (λ i. omega (arith, known i)) (s .pre)
+    ∙ ap not (sym (at-call .is-rising .ensures) ∙ c .if1 .left)))
 
 pub overfull-refusal-spec : {M : Type 1} → statement M
 overfull-refusal-spec = tie.close (tie.spec is-rising-requires returns returns-2)

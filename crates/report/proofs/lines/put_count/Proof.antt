@@ -17,7 +17,14 @@ count-facts-requires c κs = search needs
 cast-put-short : tie.Need-cast-put-short
 cast-put-short c =
     let s = c .before .before .before .before in
-    record { fits = omega (arith, c .before .count-facts .ensures, filled-within product (now (s .args .table)) (s .pre .0 .laid), s .pre .0 .fits) }
+    record {
+      fits = omega (
+        arith,
+        c .before .count-facts .ensures,
+        filled-within product (now (s .args .table)) (s .pre .0 .laid),
+        s .pre .0 .fits,
+      );
+    }
 
 put-short-requires : tie.Need-put-short-requires
 put-short-requires c κs = search needs

@@ -1,17 +1,26 @@
--- `put_lines`: the invariant is `PrintingFrom`, that the tickets before place i are run and their lines gathered. The measure is the bytes that
--- are left. Assumes nothing.
+-- `put_lines`: the invariant is `PrintingFrom`, that the tickets before place i are run and their lines gathered. The measure is
+-- the bytes that are left. Assumes nothing.
 use Prim.Native.Nat.{_*_, _-_, _≤_}
 use mathlib.Core.Path.{_≡_, refl, sym, subst, _∙_}
 use lib.ListN.{length}
 use borrow.Author.Needs.{needs}
 use Rattle.rdfs.specs.Numbers.{recordLength}
 use Rattle.rdfs.specs.Register.{cut}
-use Rattle.report.proofs.Printing.{PrintingFrom, printing-start, printing-words, printing-table, printing-line, printing-on, printing-end}
+use Rattle.report.proofs.Printing.{
+  PrintingFrom,
+  printing-start,
+  printing-words,
+  printing-table,
+  printing-line,
+  printing-on,
+  printing-end,
+}
 use Rattle.report.proofs.lines.put_lines.Statement.{statement}
 use Rattle.report.proofs.lines.put_lines.Tie as tie
 
 abbrev Inv-loop : tie.InvT-loop
-Inv-loop table₀ bytes out₀ i₀ at₀ table out i at = (i ≤ length bytes) × (length out ≡ length out₀) × PrintingFrom table₀ bytes i at table out
+Inv-loop table₀ bytes out₀ i₀ at₀ table out i at =
+    (i ≤ length bytes) × (length out ≡ length out₀) × PrintingFrom table₀ bytes i at table out
 
 abbrev μ-loop : tie.MeasureT-loop
 μ-loop table₀ bytes out₀ i₀ at₀ table out i at = length bytes - i
@@ -45,7 +54,9 @@ put-line-requires c κs =
     let at-end = c .before .before .before .before .before .before in
     let at-loop = at-end .before .before in
     let s = at-loop .before .before .before .before in
-    printing-line (s .args .table .now) (s .args .bytes .now) (at-loop .loop .inv .2) (at-end .before .loop-test .taken) (at-end .find-end .ensures) (subst (λ k. 18 * length (cut recordLength (s .args .bytes .now)) ≤ k) (sym (at-loop .loop .inv .1)) (s .pre .1))
+    printing-line (s .args .table .now) (s .args .bytes .now) (at-loop .loop .inv .2) (at-end .before .loop-test .taken)
+    (at-end .find-end .ensures) (subst (λ k. 18 * length (cut recordLength (s .args .bytes .now)) ≤ k)
+    (sym (at-loop .loop .inv .1)) (s .pre .1))
 
 loop-less : tie.Need-loop-less Inv-loop μ-loop
 loop-less c = search needs
@@ -54,8 +65,13 @@ loop-again : tie.Need-loop-again Inv-loop μ-loop
 loop-again c =
     let at-end = c .before .before .before .before .before .before .before .before .before in
     let at-loop = at-end .before .before in
-    let s = at-loop .before .before .before .before in
-    (search needs, c .before .before .put-line .kept .0 ∙ at-loop .loop .inv .1, printing-on (s .args .table .now) (s .args .bytes .now) (at-loop .loop .inv .2) (at-end .before .loop-test .taken) (at-end .find-end .ensures) (c .before .before .before .before .before .before .apply-checked .ensures) (c .before .before .put-line .ensures))
+    let s = at-loop .before .before .before .before in (
+      search needs,
+      c .before .before .put-line .kept .0 ∙ at-loop .loop .inv .1,
+      printing-on (s .args .table .now)
+          (s .args .bytes .now) (at-loop .loop .inv .2) (at-end .before .loop-test .taken) (at-end .find-end .ensures)
+          (c .before .before .before .before .before .before .apply-checked .ensures) (c .before .before .put-line .ensures),
+    )
 
 same-length : tie.Need-same-length Inv-loop μ-loop
 same-length c =
@@ -70,7 +86,8 @@ returns : tie.Need-returns Inv-loop μ-loop
 returns c =
     let at-loop = c .before in
     let s = at-loop .before .before .before .before in
-    printing-end (s .args .table .now) (s .args .bytes .now) (at-loop .loop .inv .2) (c .loop-test .left) (subst (λ k. 18 * length (cut recordLength (s .args .bytes .now)) ≤ k) (sym (at-loop .loop .inv .1)) (s .pre .1))
+    printing-end (s .args .table .now) (s .args .bytes .now) (at-loop .loop .inv .2) (c .loop-test .left)
+    (subst (λ k. 18 * length (cut recordLength (s .args .bytes .now)) ≤ k) (sym (at-loop .loop .inv .1)) (s .pre .1))
 
 pub put-lines-spec : {M : Type 1} → statement M
 put-lines-spec =

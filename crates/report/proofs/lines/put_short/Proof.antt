@@ -8,7 +8,8 @@ use Rattle.report.proofs.lines.put_short.Tie as tie
 put-number-requires : tie.Need-put-number-requires
 put-number-requires c κs =
     let s = c .before .before in
-    number-fits 5 (s .args .n) (s .args .after) (omega arith) (omega (arith, s .fits .n .fits)) (s .args .at) (s .args .out .now) (s .pre)
+    number-fits 5 (s .args .n) (s .args .after) (omega arith) (omega (arith, s .fits .n .fits)) (s .args .at) (s .args .out .now)
+    (s .pre)
 
 same-length : tie.Need-same-length
 same-length c = search needs

@@ -31,7 +31,8 @@ loop-again c =
     let turn = c .before .before .before .before .before .before .before .before in
     let chunk = turn .run-chunk in
     let going = turn .before .before .before .before .before .loop .inv in
-    going-more going (chunk .result) _ _ _ (c .enum-told .given .1) (chunk .ensures) (chunk .kept .0) (chunk .kept .1 .0) (chunk .kept .1 .1 .0)
+    going-more going (chunk .result) _ _ _ (c .enum-told .given .1) (chunk .ensures) (chunk .kept .0) (chunk .kept .1 .0)
+    (chunk .kept .1 .1 .0)
 
 enum-told-2 : tie.Need-enum-told-2 Inv-loop μ-loop
 enum-told-2 c = search needs

@@ -15,7 +15,8 @@ slice-aggregate-put-lines c =
 put-lines-requires : tie.Need-put-lines-requires
 put-lines-requires c κs =
     let start = c .before .before .before .before .before .before in
-    let fit = lines-fit (now (start .args .bytes)) (now (start .args .out)) (start .args .n) (start .pre .1) (start .pre .0 .room) in
+    let fit = lines-fit (now (start .args .bytes)) (now (start .args .out)) (start .args .n) (start .pre .1)
+    (start .pre .0 .room) in
     (start .pre .0 .table, fit)
 
 slice-aggregate-write-output : tie.Need-slice-aggregate-write-output

@@ -1,5 +1,5 @@
--- `each::all_meet` meets its contract. The loop's invariant: the words of kind k before `i` have ids as the rule asks, and those left stand
--- from `i` up to `end`. The measure is their number. Assumes nothing.
+-- `each::all_meet` meets its contract. The loop's invariant: the words of kind k before `i` have ids as the rule asks, and those
+-- left stand from `i` up to `end`. The measure is their number. Assumes nothing.
 use Prim.Native.Nat.{ℕ, _-_}
 use mathlib.Core.List.{List}
 use native.Mathlib.Omega.{arith}
@@ -7,12 +7,12 @@ use borrow.Author.Needs.{needs}
 use denote.Ref.{now}
 use Rattle.rdfs.specs.Rules.{Rule}
 use Rattle.table.specs.Parts.{firstOf, secondOf, thirdOf}
-use Rattle.runs.specs.Runs.{at}
-use Rattle.runs.specs.Graphs.{graphOf}
-use Rattle.runs.specs.Asked.{Asks}
+use Rattle.spans.specs.Spans.{at}
+use Rattle.spans.specs.Graphs.{graphOf}
+use Rattle.spans.specs.Asked.{Asks}
 use Rattle.rules.specs.RuleOf.{ruleOf}
-use Rattle.runs.proofs.Decided.{decided-met, decided-broken}
-use Rattle.runs.proofs.Passed.{Passed, passed-none, passed-more, passed-end}
+use Rattle.spans.proofs.Decided.{decided-met, decided-broken}
+use Rattle.spans.proofs.Passed.{Passed, passed-none, passed-more, passed-end}
 use Rattle.rules.proofs.Meeting.{asked-meets, meets-asked}
 use Rattle.rules.proofs.each.all_meet.Statement.{statement}
 use Rattle.rules.proofs.each.all_meet.Tie as tie
@@ -43,7 +43,8 @@ place-of-requires-2 : tie.Need-place-of-requires-2 Inv-loop μ-loop
 place-of-requires-2 c κs = search needs
 
 loop-holds : tie.Need-loop-holds Inv-loop μ-loop
-loop-holds c = passed-none _ _ _ _ _ _ (c .before .before .before .word-of .ensures) (c .before .word-of2 .ensures) (c .before .before .place-of .ensures) (c .place-of2 .ensures)
+loop-holds c = passed-none _ _ _ _ _ _ (c .before .before .before .word-of .ensures) (c .before .word-of2 .ensures)
+    (c .before .before .place-of .ensures) (c .place-of2 .ensures)
 
 mul-w : tie.Need-mul-w Inv-loop μ-loop
 mul-w c = omega (arith, c .before .loop .inv .within)
@@ -65,8 +66,15 @@ ids-meet-requires c κs =
     let at-before = c .before .before .before .before in
     let at-loop = at-before .before in
     let entry = at-loop .before .before .before .before .before .before .before in
-    let ids = entry .pre .0 .words .facts (at-loop .loop .i) (omega (arith, at-loop .loop .inv .within)) .allowed in
-    (entry .pre .0, (rw (c .before .before .first-of .ensures) (ids .first), rw (c .before .second-of .ensures) (ids .second), rw (c .third-of .ensures) (ids .third)), entry .pre .4)
+    let ids = entry .pre .0 .words .facts (at-loop .loop .i) (omega (arith, at-loop .loop .inv .within)) .allowed in (
+      entry .pre .0,
+      (
+        rw (c .before .before .first-of .ensures) (ids .first),
+        rw (c .before .second-of .ensures) (ids .second),
+        rw (c .third-of .ensures) (ids .third),
+      ),
+      entry .pre .4,
+    )
 
 returns : tie.Need-returns Inv-loop μ-loop
 returns c =
@@ -77,7 +85,11 @@ returns c =
     let words = now (entry .args .t) in
     let rule = ruleOf (entry .args .rule) in
     let i = at-loop .loop .i in
-    let answer = rw (at-first-of .first-of .ensures, c .before .before .before .second-of .ensures, c .before .before .third-of .ensures) at (c .before .ids-meet .ensures) in
+    let answer = rw (
+      at-first-of .first-of .ensures,
+      c .before .before .before .second-of .ensures,
+      c .before .before .third-of .ensures,
+    ) at (c .before .ids-meet .ensures) in
     let kind = at-loop .loop .inv .left i (omega arith) (at-loop-test .loop-test .taken) in
     λ met. decided-broken (c .before .ids-meet .result) (Asked words rule i) answer (c .if1 .taken)
     (meets-asked words rule _ (entry .pre .3) (entry .pre .0 .words) met i (omega (arith, at-loop .loop .inv .within)) kind)
@@ -98,13 +110,19 @@ loop-again c =
     let at-loop = at-loop-test .before in
     let entry = at-loop .before .before .before .before .before .before .before in
     let asked = Asked (now (entry .args .t)) (ruleOf (entry .args .rule)) (at-loop .loop .i) in
-    let answer = rw (at-first-of .first-of .ensures, c .before .before .before .second-of .ensures, c .before .before .third-of .ensures) at (c .before .ids-meet .ensures) in
-    passed-more _ _ _ _ (at-loop .loop .inv) (at-loop-test .loop-test .taken) (decided-met (c .before .ids-meet .result) asked answer (c .if1 .left))
+    let answer = rw (
+      at-first-of .first-of .ensures,
+      c .before .before .before .second-of .ensures,
+      c .before .before .third-of .ensures,
+    ) at (c .before .ids-meet .ensures) in
+    passed-more _ _ _ _ (at-loop .loop .inv) (at-loop-test .loop-test .taken) (decided-met (c .before .ids-meet .result) asked
+    answer (c .if1 .left))
 
 returns-2 : tie.Need-returns-2 Inv-loop μ-loop
 returns-2 c =
     let entry = c .before .before .before .before .before .before .before .before in
-    asked-meets (now (entry .args .t)) (ruleOf (entry .args .rule)) _ (entry .pre .3) (entry .pre .1) (passed-end _ _ _ _ (c .before .loop .inv) (c .loop-test .left))
+    asked-meets (now (entry .args .t)) (ruleOf (entry .args .rule)) _ (entry .pre .3) (entry .pre .1)
+    (passed-end _ _ _ _ (c .before .loop .inv) (c .loop-test .left))
 
 pub all-meet-spec : {M : Type 1} → statement M
 all-meet-spec =

@@ -1,5 +1,5 @@
--- `each::ids_meet` meets its contract: in each arm the rule is known, and the arm's test is exact for it. Where a test relies on an earlier
--- rule, so does the contract. Assumes nothing.
+-- `each::ids_meet` meets its contract: in each arm the rule is known, and the arm's test is exact for it. Where a test relies on
+-- an earlier rule, so does the contract. Assumes nothing.
 use native.Mathlib.Omega.{arith}
 use borrow.Author.Needs.{needs}
 use Rattle.rules.proofs.each.ids_meet.Statement.{statement}
@@ -44,21 +44,26 @@ ids-meet-spec =
     (λ c. search needs)
     (λ c κs. search needs)
     (λ c. search needs)
-    (λ c κs. let entry = c .before .before .before .before in (entry .pre .0, (omega arith, omega arith), rw (c .enum-told19 .given .1) at (entry .pre .2)))
+    (λ c κs. let entry = c .before .before .before .before in
+    (entry .pre .0, (omega arith, omega arith), rw (c .enum-told19 .given .1) at (entry .pre .2)))
     (λ c. search needs)
-    (λ c κs. let entry = c .before .before .before .before in (entry .pre .0, (omega arith, omega arith), rw (c .enum-told20 .given .1) at (entry .pre .2)))
+    (λ c κs. let entry = c .before .before .before .before in
+    (entry .pre .0, (omega arith, omega arith), rw (c .enum-told20 .given .1) at (entry .pre .2)))
     (λ c. search needs)
     (λ c. search needs)
-    (λ c κs. let entry = c .before .before .before .before in (entry .pre .0, (omega arith, omega arith), rw (c .enum-told22 .given .1) at (entry .pre .2)))
+    (λ c κs. let entry = c .before .before .before .before in
+    (entry .pre .0, (omega arith, omega arith), rw (c .enum-told22 .given .1) at (entry .pre .2)))
     (λ c. search needs)
     (λ c. search needs)
     (λ c. search needs)
     (λ c. search needs)
     (λ c κs. search needs)
     (λ c. search needs)
-    (λ c κs. let entry = c .before .before .before .before in (entry .pre .0, (omega arith, omega arith), rw (c .enum-told27 .given .1) at (entry .pre .2)))
+    (λ c κs. let entry = c .before .before .before .before in
+    (entry .pre .0, (omega arith, omega arith), rw (c .enum-told27 .given .1) at (entry .pre .2)))
     (λ c. search needs)
-    (λ c κs. let entry = c .before .before .before .before in (entry .pre .0, (omega arith, omega arith), rw (c .enum-told28 .given .1) at (entry .pre .2)))
+    (λ c κs. let entry = c .before .before .before .before in
+    (entry .pre .0, (omega arith, omega arith), rw (c .enum-told28 .given .1) at (entry .pre .2)))
     (λ c. rw (c .before .enum-told .given .1) (c .lacks-least .ensures))
     (λ c. rw (c .before .enum-told2 .given .1) (c .lacks-least2 .ensures))
     (λ c. rw (c .before .enum-told3 .given .1) (c .lacks-least3 .ensures))
@@ -74,9 +79,9 @@ ids-meet-spec =
     (λ c. rw (c .before .enum-told13 .given .1) (c .is-only .ensures))
     (λ c. rw (c .before .enum-told14 .given .1) (c .is-only2 .ensures))
     (λ c. rw (c .enum-told15 .given .1) tt)
-    (λ c. rw (c .before .enum-told16 .given .1) (c .lacks-in-run .ensures))
+    (λ c. rw (c .before .enum-told16 .given .1) (c .lacks-in-span .ensures))
     (λ c. rw (c .enum-told17 .given .1) tt)
-    (λ c. rw (c .before .enum-told18 .given .1) (c .lacks-in-run2 .ensures))
+    (λ c. rw (c .before .enum-told18 .given .1) (c .lacks-in-span2 .ensures))
     (λ c. rw (c .before .enum-told19 .given .1) (c .has-linked-domains .ensures))
     (λ c. rw (c .before .enum-told20 .given .1) (c .has-linked-ranges .ensures))
     (λ c. rw (c .enum-told21 .given .1) tt)

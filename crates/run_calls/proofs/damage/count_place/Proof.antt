@@ -7,7 +7,8 @@ use Rattle.run_calls.proofs.damage.count_place.Statement.{statement}
 use Rattle.run_calls.proofs.damage.count_place.Tie as tie
 
 abbrev Inv-loop : tie.InvT-loop
-Inv-loop image₀ place t₀ kept counts₀ old x₀ image t counts x = (place < length image₀) × (length image ≡ length image₀) × (length t ≡ length t₀)
+Inv-loop image₀ place t₀ kept counts₀ old x₀ image t counts x =
+    (place < length image₀) × (length image ≡ length image₀) × (length t ≡ length t₀)
 
 abbrev μ-loop : tie.MeasureT-loop
 μ-loop image₀ place t₀ kept counts₀ old x₀ image t counts x = 256 - x

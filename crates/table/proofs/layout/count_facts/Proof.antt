@@ -1,4 +1,5 @@
--- `layout::count_facts`. The loop's invariant: the number of facts is between lo and lo + size. The measure is size. Assumes nothing.
+-- `layout::count_facts`. The loop's invariant: the number of facts is between lo and lo + size. The measure is size. Assumes
+-- nothing.
 use mathlib.Core.Path.{refl}
 use native.Mathlib.Omega.{arith}
 use denote.Ref.{now}
@@ -78,7 +79,12 @@ add-result c =
     let loop = c .before .before .before .loop in
     let start = c .before .before .before .before .before .before in
     let turn = filled-turns product (now (start .args .t)) (start .pre) _ _ (c .is-below2 .ensures) in
-    omega (arith, between-last (loop .inv) _ (c .before .before .loop-test .left) turn, filled-within product (now (c .before .before .before .before .before .before .args .t)) (c .before .before .before .before .before .before .pre))
+    omega (
+      arith,
+      between-last (loop .inv) _ (c .before .before .loop-test .left) turn,
+      filled-within product (now (c .before .before .before .before .before .before .args .t))
+          (c .before .before .before .before .before .before .pre),
+    )
 
 returns-2 : tie.Need-returns-2 Inv-loop μ-loop
 returns-2 c =

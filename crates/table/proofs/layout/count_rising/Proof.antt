@@ -1,4 +1,5 @@
--- `layout::count_rising`. The loop's invariant is `Walk`: the table is laid out if the rest is, from above the last word on. The measure is the number of words left. Assumes nothing.
+-- `layout::count_rising`. The loop's invariant is `Walk`: the table is laid out if the rest is, from above the last word on. The
+-- measure is the number of words left. Assumes nothing.
 use mathlib.Core.Path.{sym, _∙_}
 use borrow.Author.Tests.{not-true, not-false}
 use Prim.Native.Nat.{_-_}
@@ -33,7 +34,8 @@ is-fact-requires c κs = search needs
 returns-2 : tie.Need-returns-2 Inv-loop μ-loop
 returns-2 c =
     let w = c .before .before .before .before .before in
-    walk-no-fact (w .loop .inv) (c .before .before .before .before .loop-test .taken) (sym (c .before .is-fact .ensures) ∙ not-true (c .before .is-fact .result) (c .if2 .taken))
+    walk-no-fact (w .loop .inv) (c .before .before .before .before .loop-test .taken) (sym (c .before .is-fact .ensures)
+    ∙ not-true (c .before .is-fact .result) (c .if2 .taken))
 
 add-i : tie.Need-add-i Inv-loop μ-loop
 add-i c = omega arith
@@ -44,7 +46,8 @@ loop-less c = omega arith
 loop-again : tie.Need-loop-again Inv-loop μ-loop
 loop-again c =
     let w = c .before .before .before .before .before in
-    walk-more (w .loop .inv) (c .before .before .before .before .loop-test .taken) (c .before .before .if1 .left) (sym (c .before .is-fact .ensures) ∙ not-false (c .before .is-fact .result) (c .if2 .left))
+    walk-more (w .loop .inv) (c .before .before .before .before .loop-test .taken) (c .before .before .if1 .left)
+    (sym (c .before .is-fact .ensures) ∙ not-false (c .before .is-fact .result) (c .if2 .left))
 
 returns-3 : tie.Need-returns-3 Inv-loop μ-loop
 returns-3 c = walk-end (c .before .loop .inv) (c .loop-test .left)

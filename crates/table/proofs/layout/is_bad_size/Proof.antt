@@ -16,7 +16,8 @@ returns-2 : tie.Need-returns-2
 returns-2 c = sym (is-true (tests-size product (now (c .before .before .args .t)) .complete (inr (c .if2 .taken))))
 
 returns-3 : tie.Need-returns-3
-returns-3 c = sym (is-false (λ t. ⊎-elim (c .before .if1 .left) (λ l. omega (arith, c .if2 .left)) (tests-size product (now (c .before .before .args .t)) .sound t)))
+returns-3 c = sym (is-false (λ t. ⊎-elim (c .before .if1 .left) (λ l. omega (arith, c .if2 .left))
+    (tests-size product (now (c .before .before .args .t)) .sound t)))
 
 pub is-bad-size-spec : {M : Type 1} → statement M
 is-bad-size-spec = tie.close (tie.spec returns returns-2 returns-3)

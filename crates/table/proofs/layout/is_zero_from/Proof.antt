@@ -1,5 +1,5 @@
--- `layout::is_zero_from`. The loop's invariant: `highest` is the highest word from n up to i. The measure is the number of words left.
--- Assumes nothing.
+-- `layout::is_zero_from`. The loop's invariant: `highest` is the highest word from n up to i. The measure is the number of words
+-- left. Assumes nothing.
 use Prim.Native.Nat.{_-_}
 use mathlib.Core.Path.{sym}
 use mathlib.Core.Logic.{⊎-elim}

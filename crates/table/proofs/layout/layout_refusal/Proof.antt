@@ -1,7 +1,7 @@
 -- `layout::layout_refusal`: the two tests in order. Assumes nothing.
 use denote.Ref.{now}
 use mathlib.Core.Path.{sym, _∙_}
-use Rattle.table.proofs.Refusals.{answer-size, answer-layout, answer-none}
+use Rattle.table.proofs.TableRefusals.{answer-size, answer-layout, answer-none}
 use borrow.Author.Needs.{needs}
 use Rattle.table.proofs.layout.layout_refusal.Statement.{statement}
 use Rattle.table.proofs.layout.layout_refusal.Tie as tie
@@ -21,13 +21,15 @@ returns-2 : tie.Need-returns-2
 returns-2 c =
     let bad = c .before .before .before .is-bad-size in
     let laid = c .before .is-laid-out in
-    sym (answer-none (now (c .before .before .before .before .before .args .t)) (sym (bad .ensures) ∙ c .before .before .if1 .left) (sym (laid .ensures) ∙ c .if2 .taken))
+    sym (answer-none (now (c .before .before .before .before .before .args .t)) (sym (bad .ensures)
+    ∙ c .before .before .if1 .left) (sym (laid .ensures) ∙ c .if2 .taken))
 
 returns-3 : tie.Need-returns-3
 returns-3 c =
     let bad = c .before .before .before .is-bad-size in
     let laid = c .before .is-laid-out in
-    sym (answer-layout (now (c .before .before .before .before .before .args .t)) (sym (bad .ensures) ∙ c .before .before .if1 .left) (sym (laid .ensures) ∙ c .if2 .left))
+    sym (answer-layout (now (c .before .before .before .before .before .args .t)) (sym (bad .ensures)
+    ∙ c .before .before .if1 .left) (sym (laid .ensures) ∙ c .if2 .left))
 
 pub layout-refusal-spec : {M : Type 1} → statement M
 layout-refusal-spec =

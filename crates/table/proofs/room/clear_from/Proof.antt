@@ -1,4 +1,5 @@
--- `room::clear_from`. The loop's invariant is `Clearing`: the words from k up to i are zeros. The measure is the number of words left. Assumes nothing.
+-- `room::clear_from`. The loop's invariant is `Clearing`: the words from k up to i are zeros. The measure is the number of words
+-- left. Assumes nothing.
 use Prim.Native.Nat.{_-_}
 use native.Mathlib.Omega.{arith}
 use lib.ListN.{length}

@@ -1,4 +1,5 @@
--- `room::copy_words`. The loop's invariant is `Copying`: the first i words are copied. The measure is the number of words left. Assumes nothing.
+-- `room::copy_words`. The loop's invariant is `Copying`: the first i words are copied. The measure is the number of words left.
+-- Assumes nothing.
 use Prim.Native.Nat.{_-_}
 use mathlib.Core.Path.{sym, _∙_}
 use native.Mathlib.Omega.{arith}

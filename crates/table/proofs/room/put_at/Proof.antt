@@ -1,4 +1,5 @@
--- `room::put_at`. The loop's invariant is `Moving`: the words from k on stand one place up. The measure is how many are still to move. Assumes nothing.
+-- `room::put_at`. The loop's invariant is `Moving`: the words from k on stand one place up. The measure is how many are still to
+-- move. Assumes nothing.
 use Prim.Native.Nat.{_-_}
 use native.Mathlib.Omega.{arith}
 use lib.ListN.{length-set}

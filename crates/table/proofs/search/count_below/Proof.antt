@@ -1,4 +1,5 @@
--- `search::count_below`. The loop's invariant: the number of words below w is between lo and lo + size. The measure is size. Assumes nothing.
+-- `search::count_below`. The loop's invariant: the number of words below w is between lo and lo + size. The measure is size.
+-- Assumes nothing.
 use mathlib.Core.Path.{refl}
 use native.Mathlib.Omega.{arith}
 use denote.Ref.{now}
@@ -17,11 +18,16 @@ abbrev μ-loop : tie.MeasureT-loop
 μ-loop t n w lo₀ size₀ lo size = size
 
 returns : tie.Need-returns Inv-loop μ-loop
-returns c = omega (arith, first-within (now (c .before .before .args .t)) (c .before .before .args .n) (c .before .before .args .w) (c .before .before .pre .0) (c .before .before .pre .1))
+returns c = omega (
+  arith,
+  first-within (now (c .before .before .args .t)) (c .before .before .args .n)
+      (c .before .before .args .w) (c .before .before .pre .0) (c .before .before .pre .1),
+)
 
 loop-holds : tie.Need-loop-holds Inv-loop μ-loop
 loop-holds c =
-    let within = first-within (now (c .before .before .args .t)) (c .before .before .args .n) (c .before .before .args .w) (c .before .before .pre .0) (c .before .before .pre .1) in
+    let within = first-within (now (c .before .before .args .t)) (c .before .before .args .n) (c .before .before .args .w)
+    (c .before .before .pre .0) (c .before .before .pre .1) in
     record { some = omega arith; within = omega arith; low = omega arith; high = omega arith }
 
 add-is-below : tie.Need-add-is-below Inv-loop μ-loop
@@ -40,14 +46,16 @@ mul-lo : tie.Need-mul-lo Inv-loop μ-loop
 mul-lo c =
     let loop = c .before .before .before .loop in
     let start = c .before .before .before .before .before .before in
-    let turn = first-turns (now (start .args .t)) (start .args .n) (start .args .w) (start .pre .0) (start .pre .1) _ _ (omega arith) (c .is-below .ensures) in
+    let turn = first-turns (now (start .args .t)) (start .args .n) (start .args .w) (start .pre .0) (start .pre .1) _ _
+    (omega arith) (c .is-below .ensures) in
     omega (arith, moved-within (loop .inv) _ _ turn)
 
 add-lo : tie.Need-add-lo Inv-loop μ-loop
 add-lo c =
     let loop = c .before .before .before .loop in
     let start = c .before .before .before .before .before .before in
-    let turn = first-turns (now (start .args .t)) (start .args .n) (start .args .w) (start .pre .0) (start .pre .1) _ _ (omega arith) (c .is-below .ensures) in
+    let turn = first-turns (now (start .args .t)) (start .args .n) (start .args .w) (start .pre .0) (start .pre .1) _ _
+    (omega arith) (c .is-below .ensures) in
     omega (arith, moved-within (loop .inv) _ _ turn)
 
 sub-size : tie.Need-sub-size Inv-loop μ-loop
@@ -60,7 +68,8 @@ loop-again : tie.Need-loop-again Inv-loop μ-loop
 loop-again c =
     let loop = c .before .before .before .loop in
     let start = c .before .before .before .before .before .before in
-    let turn = first-turns (now (start .args .t)) (start .args .n) (start .args .w) (start .pre .0) (start .pre .1) _ _ (omega arith) (c .is-below .ensures) in
+    let turn = first-turns (now (start .args .t)) (start .args .n) (start .args .w) (start .pre .0) (start .pre .1) _ _
+    (omega arith) (c .is-below .ensures) in
     between-half (loop .inv) _ _ refl (c .before .before .loop-test .taken) turn
 
 mul-is-below-2 : tie.Need-mul-is-below-2 Inv-loop μ-loop
@@ -76,14 +85,23 @@ add-result : tie.Need-add-result Inv-loop μ-loop
 add-result c =
     let loop = c .before .before .before .loop in
     let start = c .before .before .before .before .before .before in
-    let turn = first-turns (now (start .args .t)) (start .args .n) (start .args .w) (start .pre .0) (start .pre .1) _ _ (omega arith) (c .is-below2 .ensures) in
-    omega (arith, between-last (loop .inv) _ (c .before .before .loop-test .left) turn, first-within (now (c .before .before .before .before .before .before .args .t)) (c .before .before .before .before .before .before .args .n) (c .before .before .before .before .before .before .args .w) (c .before .before .before .before .before .before .pre .0) (c .before .before .before .before .before .before .pre .1))
+    let turn = first-turns (now (start .args .t)) (start .args .n) (start .args .w) (start .pre .0) (start .pre .1) _ _
+    (omega arith) (c .is-below2 .ensures) in
+    omega (
+      arith,
+      between-last (loop .inv) _ (c .before .before .loop-test .left) turn,
+      first-within (now (c .before .before .before .before .before .before .args .t))
+          (c .before .before .before .before .before .before .args .n)
+          (c .before .before .before .before .before .before .args .w)
+          (c .before .before .before .before .before .before .pre .0) (c .before .before .before .before .before .before .pre .1),
+    )
 
 returns-2 : tie.Need-returns-2 Inv-loop μ-loop
 returns-2 c =
     let loop = c .before .before .before .loop in
     let start = c .before .before .before .before .before .before in
-    let turn = first-turns (now (start .args .t)) (start .args .n) (start .args .w) (start .pre .0) (start .pre .1) _ _ (omega arith) (c .is-below2 .ensures) in
+    let turn = first-turns (now (start .args .t)) (start .args .n) (start .args .w) (start .pre .0) (start .pre .1) _ _
+    (omega arith) (c .is-below2 .ensures) in
     between-last (loop .inv) _ (c .before .before .loop-test .left) turn
 
 pub count-below-spec : {M : Type 1} → statement M

@@ -1,4 +1,5 @@
--- `search::count_up_to`. The loop's invariant: at least k words are at most c. The measure is the number of words left. Assumes nothing.
+-- `search::count_up_to`. The loop's invariant: at least k words are at most c. The measure is the number of words left. Assumes
+-- nothing.
 use Prim.Native.Nat.{_+_, _-_, _≤_}
 use native.Mathlib.Omega.{arith}
 use denote.Ref.{now}
@@ -26,7 +27,8 @@ shared-slice-read-if1 c = omega arith
 returns : tie.Need-returns Inv-loop μ-loop
 returns c =
     let start = c .before .before .before .before in
-    let down = first-down (now (start .args .t)) (start .args .n) (start .args .c + 1) (start .pre .0) (start .pre .1) (c .before .before .before .loop .k) (c .before .before .loop-test .taken) (omega arith) in
+    let down = first-down (now (start .args .t)) (start .args .n) (start .args .c + 1) (start .pre .0) (start .pre .1)
+    (c .before .before .before .loop .k) (c .before .before .loop-test .taken) (omega arith) in
     omega arith
 
 add-k : tie.Need-add-k Inv-loop μ-loop
@@ -38,7 +40,8 @@ loop-less c = omega arith
 loop-again : tie.Need-loop-again Inv-loop μ-loop
 loop-again c =
     let start = c .before .before .before .before in
-    let up = first-up (now (start .args .t)) (start .args .n) (start .args .c + 1) (start .pre .0) (start .pre .1) (c .before .before .before .loop .k) (c .before .before .loop-test .taken) (omega arith) in
+    let up = first-up (now (start .args .t)) (start .args .n) (start .args .c + 1) (start .pre .0) (start .pre .1)
+    (c .before .before .before .loop .k) (c .before .before .loop-test .taken) (omega arith) in
     omega arith
 
 returns-2 : tie.Need-returns-2 Inv-loop μ-loop

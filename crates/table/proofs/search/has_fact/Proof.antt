@@ -20,7 +20,8 @@ returns c =
     let s = c .before .before .before in
     let t = now (s .args .t) in
     c .has-word .ensures ∙ (ap (member (take (s .args .n) t)) (c .before .word-of .ensures)
-    ∙ has-word-of t (s .args .n) (s .pre .0) (s .args .k) (s .args .a) (s .args .b) (s .args .c) (s .pre .1) (s .pre .2) (s .pre .3) (s .pre .4))
+    ∙ has-word-of t (s .args .n) (s .pre .0) (s .args .k) (s .args .a) (s .args .b) (s .args .c) (s .pre .1) (s .pre .2)
+    (s .pre .3) (s .pre .4))
 
 pub has-fact-spec : {M : Type 1} → statement M
 has-fact-spec = tie.close (tie.spec word-of-requires has-word-requires returns)

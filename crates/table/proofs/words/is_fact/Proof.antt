@@ -29,7 +29,8 @@ returns c =
     let shaped = c .before .before .is-shaped in
     let p = c .before .before .before in
     decides-second (c .is-allowed .result) _
-    (tests-fact _ _ _ _ _ (p .before .before .before .kind-of .ensures) (p .before .before .first-of .ensures) (p .before .second-of .ensures) (p .third-of .ensures))
+    (tests-fact _ _ _ _ _ (p .before .before .before .kind-of .ensures) (p .before .before .first-of .ensures)
+    (p .before .second-of .ensures) (p .third-of .ensures))
     (decides-true (shaped .result) (shaped .ensures) (c .before .if1 .taken)) (c .is-allowed .ensures)
 
 returns-2 : tie.Need-returns-2
@@ -37,7 +38,8 @@ returns-2 c =
     let shaped = c .before .is-shaped in
     let p = c .before .before in
     decides-tests false _ (λ h. decides-false (shaped .result) (shaped .ensures) (c .if1 .left) (h .0))
-    (tests-fact _ _ _ _ _ (p .before .before .before .kind-of .ensures) (p .before .before .first-of .ensures) (p .before .second-of .ensures) (p .third-of .ensures))
+    (tests-fact _ _ _ _ _ (p .before .before .before .kind-of .ensures) (p .before .before .first-of .ensures)
+    (p .before .second-of .ensures) (p .third-of .ensures))
 
 pub is-fact-spec : {M : Type 1} → statement M
 is-fact-spec =

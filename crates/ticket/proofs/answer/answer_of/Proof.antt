@@ -27,7 +27,11 @@ returns-2 : tie.Need-returns-2
 returns-2 c =
     let s = c .before .before .before in
     let r = s .before .before .args in
-    subst (Valued _ (r .n)) (sym (s .s .given .1)) (record { number = refl; added = c .before .excess .ensures; removed = c .excess2 .ensures })
+    subst (Valued _ (r .n)) (sym (s .s .given .1)) (record {
+      number = refl;
+      added = c .before .excess .ensures;
+      removed = c .excess2 .ensures;
+    })
 
 pub answer-of-spec : {M : Type 1} → statement M
 answer-of-spec =

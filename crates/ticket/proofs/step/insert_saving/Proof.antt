@@ -47,7 +47,8 @@ returns c =
     let at-grow = c .before .before .before .before .before .before .before .before .before in
     let at-copy = at-grow .before .before .before .before in
     let start = at-copy .before .before .before .before .before in
-    way-no-room (start .pre .0) _ (at-copy .copy-words .ensures) (c .before .before .put-back .ensures) (at-grow .grow .result) (c .before .before .before .before .before .enum-told .given .1) (at-grow .grow .ensures)
+    way-no-room (start .pre .0) _ (at-copy .copy-words .ensures) (c .before .before .put-back .ensures) (at-grow .grow .result)
+    (c .before .before .before .before .before .enum-told .given .1) (at-grow .grow .ensures)
 
 same-length-3 : tie.Need-same-length-3
 same-length-3 c = search needs
@@ -59,7 +60,8 @@ returns-2 : tie.Need-returns-2
 returns-2 c =
     let at-grow = c .before .before .before .before .before in
     let start = at-grow .before .before .before .before .before .before .before .before .before in
-    way-room (start .pre .0) _ (at-grow .grow .result) _ (c .before .grown .given .1) (at-grow .grow .ensures) (at-grow .grow .kept .0)
+    way-room (start .pre .0) _ (at-grow .grow .result) _ (c .before .grown .given .1) (at-grow .grow .ensures)
+    (at-grow .grow .kept .0)
 
 pub insert-saving-spec : {M : Type 1} → statement M
 insert-saving-spec =

@@ -41,13 +41,18 @@ returns-3 : tie.Need-returns-3
 returns-3 c =
     let u = c .before .before .before .before .before .before in
     let s = u .before .before .before .before in
-    way-clash (s .pre) (sym (u .if1 .left) ∙ u .before .is-unknown-property .ensures) (sym (c .if3 .taken) ∙ c .before .clashes .ensures)
+    way-clash (s .pre) (sym (u .if1 .left) ∙ u .before .is-unknown-property .ensures) (sym (c .if3 .taken)
+    ∙ c .before .clashes .ensures)
 
 insert-possible-requires : tie.Need-insert-possible-requires
 insert-possible-requires c κs =
     let u = c .before .before .before .before .before .before .before in
     let d = c .before in
-    record { ready = u .before .before .before .before .pre; known = sym (u .before .is-unknown-property .ensures) ∙ u .if1 .left; free = sym (d .before .clashes .ensures) ∙ d .if3 .left }
+    record {
+      ready = u .before .before .before .before .pre;
+      known = sym (u .before .is-unknown-property .ensures) ∙ u .if1 .left;
+      free = sym (d .before .clashes .ensures) ∙ d .if3 .left;
+    }
 
 same-length-4 : tie.Need-same-length-4
 same-length-4 c = search needs

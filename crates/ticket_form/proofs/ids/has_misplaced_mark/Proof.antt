@@ -16,7 +16,10 @@ wide-requires-2 : tie.Need-wide-requires-2
 wide-requires-2 c κs = search needs
 
 returns-2 : tie.Need-returns-2
-returns-2 c = simp (wide-not (c .before .before .before .wide .ensures) (c .before .before .if1 .left), wide-is (c .before .wide2 .ensures) (c .if2 .taken))
+returns-2 c = simp (
+  wide-not (c .before .before .before .wide .ensures) (c .before .before .if1 .left),
+  wide-is (c .before .wide2 .ensures) (c .if2 .taken),
+)
 
 wide-requires-3 : tie.Need-wide-requires-3
 wide-requires-3 c κs = search needs
@@ -25,10 +28,23 @@ makes-property-requires : tie.Need-makes-property-requires
 makes-property-requires c κs = search needs
 
 returns-3 : tie.Need-returns-3
-returns-3 c = simp (wide-not (c .before .before .before .before .before .before .wide .ensures) (c .before .before .before .before .before .if1 .left), wide-not (c .before .before .before .before .wide2 .ensures) (c .before .before .before .if2 .left), wide-is (c .before .before .wide3 .ensures) (c .before .if3 .taken)) (ap not (c .makes-property .ensures))
+returns-3 c = simp (
+  wide-not (c .before .before .before .before .before .before .wide .ensures)
+      (c .before .before .before .before .before .if1 .left),
+  wide-not (c .before .before .before .before .wide2 .ensures)
+      (c .before .before .before .if2 .left),
+  wide-is (c .before .before .wide3 .ensures) (c .before .if3 .taken),
+)
+    (ap not (c .makes-property .ensures))
 
 returns-4 : tie.Need-returns-4
-returns-4 c = simp (wide-not (c .before .before .before .before .before .wide .ensures) (c .before .before .before .before .if1 .left), wide-not (c .before .before .before .wide2 .ensures) (c .before .before .if2 .left), wide-not (c .before .wide3 .ensures) (c .if3 .left))
+returns-4 c = simp (
+  wide-not (c .before .before .before .before .before .wide .ensures)
+      (c .before .before .before .before .if1 .left),
+  wide-not (c .before .before .before .wide2 .ensures)
+      (c .before .before .if2 .left),
+  wide-not (c .before .wide3 .ensures) (c .if3 .left),
+)
 
 pub has-misplaced-mark-spec : {M : Type 1} → statement M
 has-misplaced-mark-spec =

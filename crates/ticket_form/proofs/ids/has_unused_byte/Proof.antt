@@ -29,13 +29,15 @@ returns-4 : tie.Need-returns-4
 returns-4 c =
     let at = c .before .before .before .before .before .before in
     let t = at .before .args .t in
-    unused-second (at .used-ids .ensures) (t .b) (t .c) (c .before .before .before .if2 .left) (c .before .before .if3 .left) (c .if4 .taken)
+    unused-second (at .used-ids .ensures) (t .b) (t .c) (c .before .before .before .if2 .left) (c .before .before .if3 .left)
+    (c .if4 .taken)
 
 returns-5 : tie.Need-returns-5
 returns-5 c =
     let at = c .before .before .before .before .before .before in
     let t = at .before .args .t in
-    unused-zeros (at .used-ids .ensures) (t .b) (t .c) (c .before .before .before .if2 .left) (c .before .before .if3 .left) (c .if4 .left)
+    unused-zeros (at .used-ids .ensures) (t .b) (t .c) (c .before .before .before .if2 .left) (c .before .before .if3 .left)
+    (c .if4 .left)
 
 pub has-unused-byte-spec : {M : Type 1} → statement M
 has-unused-byte-spec =

@@ -18,7 +18,8 @@ arity-of-requires : tie.Need-arity-of-requires
 arity-of-requires c κs = search needs
 
 returns-2 : tie.Need-returns-2
-returns-2 c = simp (sym (c .before .before .before .makes-property .ensures) ∙ c .before .before .if1 .left) (c .arity-of .ensures ∙ ap arity (c .before .wide .ensures))
+returns-2 c = simp (sym (c .before .before .before .makes-property .ensures) ∙ c .before .before .if1 .left) (c .arity-of .ensures
+    ∙ ap arity (c .before .wide .ensures))
 
 pub used-ids-spec : {M : Type 1} → statement M
 used-ids-spec = tie.close (tie.spec makes-property-requires returns wide-requires arity-of-requires returns-2)

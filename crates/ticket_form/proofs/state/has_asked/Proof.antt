@@ -20,13 +20,20 @@ returns c = simp (c .before .if1 .taken) (c .has-property .ensures)
 has-fact-requires : tie.Need-has-fact-requires
 has-fact-requires c κs =
     let s = c .before .before in
-    let ids = formed-ids 1 (s .args .k) (s .args .a) (s .args .b) (s .args .c) (s .pre .formed) in
-    (s .pre .table, formed-shaped 1 (s .args .k) (s .args .a) (s .args .b) (s .args .c) (s .pre .formed) (ne-eqb _ _ (c .if1 .left)), ids .0, ids .1, ids .2)
+    let ids = formed-ids 1 (s .args .k) (s .args .a) (s .args .b) (s .args .c) (s .pre .formed) in (
+      s .pre .table,
+      formed-shaped 1 (s .args .k) (s .args .a) (s .args .b) (s .args .c) (s .pre .formed)
+          (ne-eqb _ _ (c .if1 .left)),
+      ids .0,
+      ids .1,
+      ids .2,
+    )
 
 returns-2 : tie.Need-returns-2
 returns-2 c =
     let s = c .before .before .before in
-    c .has-fact .ensures ∙ asked-one (factsOf (now (s .args .t))) (s .args .k) (s .args .a) (s .args .b) (s .args .c) (c .before .if1 .left)
+    c .has-fact .ensures ∙ asked-one (factsOf (now (s .args .t))) (s .args .k) (s .args .a) (s .args .b) (s .args .c)
+    (c .before .if1 .left)
 
 pub has-asked-spec : {M : Type 1} → statement M
 has-asked-spec = tie.close (tie.spec has-property-requires returns has-fact-requires returns-2)

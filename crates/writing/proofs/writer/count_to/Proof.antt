@@ -12,7 +12,13 @@ add-word-of : tie.Need-add-word-of
 add-word-of c = search needs
 
 word-of-requires : tie.Need-word-of-requires
-word-of-requires c κs = record { kind = omega (arith, c .before .pre .1); first = omega arith; second = omega arith; third = omega arith }
+word-of-requires c κs = record {
+  kind = omega (arith, c .before .pre .1);
+  first = omega arith;
+  second = omega arith;
+  third =
+      omega arith;
+}
 
 count-below-requires : tie.Need-count-below-requires
 count-below-requires c κs =

@@ -13,37 +13,66 @@ count-to-requires-2 c κs = (c .before .before .pre, omega arith)
 sub-result : tie.Need-sub-result
 sub-result c =
     let s = c .before .before .before in
-    omega (arith, ones-within (s .args .t .now) (s .args .n) (s .pre) (c .before .count-to .result) (c .count-to2 .result) (c .before .count-to .ensures) (c .count-to2 .ensures))
+    omega (
+      arith,
+      ones-within (s .args .t .now) (s .args .n) (s .pre) (c .before .count-to .result) (c .count-to2 .result)
+          (c .before .count-to .ensures) (c .count-to2 .ensures),
+    )
 
 add-result : tie.Need-add-result
 add-result c =
     let s = c .before .before .before in
-    omega (arith, image-counted (s .args .t .now) (s .args .n) (s .pre) (c .before .count-to .result) (c .count-to2 .result) (c .before .count-to .ensures) (c .count-to2 .ensures), image-small (s .args .t .now) (s .args .n) (s .pre))
+    omega (
+      arith,
+      image-counted (s .args .t .now) (s .args .n) (s .pre) (c .before .count-to .result) (c .count-to2 .result)
+          (c .before .count-to .ensures) (c .count-to2 .ensures),
+      image-small (s .args .t .now) (s .args .n) (s .pre),
+    )
 
 sub-result-2 : tie.Need-sub-result-2
 sub-result-2 c =
     let s = c .before .before .before in
-    omega (arith, twos-within (s .args .t .now) (s .args .n) (s .pre) (c .before .count-to .result) (c .count-to2 .result) (c .before .count-to .ensures) (c .count-to2 .ensures))
+    omega (
+      arith,
+      twos-within (s .args .t .now) (s .args .n) (s .pre) (c .before .count-to .result) (c .count-to2 .result)
+          (c .before .count-to .ensures) (c .count-to2 .ensures),
+    )
 
 add-result-2 : tie.Need-add-result-2
 add-result-2 c =
     let s = c .before .before .before in
-    omega (arith, image-counted (s .args .t .now) (s .args .n) (s .pre) (c .before .count-to .result) (c .count-to2 .result) (c .before .count-to .ensures) (c .count-to2 .ensures), image-small (s .args .t .now) (s .args .n) (s .pre))
+    omega (
+      arith,
+      image-counted (s .args .t .now) (s .args .n) (s .pre) (c .before .count-to .result) (c .count-to2 .result)
+          (c .before .count-to .ensures) (c .count-to2 .ensures),
+      image-small (s .args .t .now) (s .args .n) (s .pre),
+    )
 
 mul-result : tie.Need-mul-result
 mul-result c =
     let s = c .before .before .before in
-    omega (arith, image-counted (s .args .t .now) (s .args .n) (s .pre) (c .before .count-to .result) (c .count-to2 .result) (c .before .count-to .ensures) (c .count-to2 .ensures), image-small (s .args .t .now) (s .args .n) (s .pre))
+    omega (
+      arith,
+      image-counted (s .args .t .now) (s .args .n) (s .pre) (c .before .count-to .result) (c .count-to2 .result)
+          (c .before .count-to .ensures) (c .count-to2 .ensures),
+      image-small (s .args .t .now) (s .args .n) (s .pre),
+    )
 
 add-result-3 : tie.Need-add-result-3
 add-result-3 c =
     let s = c .before .before .before in
-    omega (arith, image-counted (s .args .t .now) (s .args .n) (s .pre) (c .before .count-to .result) (c .count-to2 .result) (c .before .count-to .ensures) (c .count-to2 .ensures), image-small (s .args .t .now) (s .args .n) (s .pre))
+    omega (
+      arith,
+      image-counted (s .args .t .now) (s .args .n) (s .pre) (c .before .count-to .result) (c .count-to2 .result)
+          (c .before .count-to .ensures) (c .count-to2 .ensures),
+      image-small (s .args .t .now) (s .args .n) (s .pre),
+    )
 
 returns : tie.Need-returns
 returns c =
     let s = c .before .before .before in
-    let counted = image-counted (s .args .t .now) (s .args .n) (s .pre) (c .before .count-to .result) (c .count-to2 .result) (c .before .count-to .ensures) (c .count-to2 .ensures) in
+    let counted = image-counted (s .args .t .now) (s .args .n) (s .pre) (c .before .count-to .result) (c .count-to2 .result)
+    (c .before .count-to .ensures) (c .count-to2 .ensures) in
     let small = image-small (s .args .t .now) (s .args .n) (s .pre) in
     (omega (arith, counted), omega (arith, counted, small))
 

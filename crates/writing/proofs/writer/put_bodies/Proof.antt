@@ -21,7 +21,8 @@ put-run-requires c κs =
     let t = s .args .t .now in
     let n = s .args .n in (
       own-count t n (s .pre .0),
-      run-ones t n (s .pre .0) (at-ones .count-to .result) (at-twos .count-to2 .result) (at-ones .count-to .ensures) (at-twos .count-to2 .ensures),
+      run-ones t n (s .pre .0) (at-ones .count-to .result) (at-twos .count-to2 .result) (at-ones .count-to .ensures)
+          (at-twos .count-to2 .ensures),
       embodied-start t n (s .pre .0) (s .args .output .now) (s .pre .2),
       s .pre .1,
     )
@@ -36,7 +37,8 @@ put-run-requires-2 c κs =
     let n = s .args .n in
     let first = at-first .put-run .ensures .0 in (
       own-count t n (s .pre .0),
-      run-twos t n (s .pre .0) (at-ones .count-to .result) (at-twos .count-to2 .result) (at-ones .count-to .ensures) (at-twos .count-to2 .ensures),
+      run-twos t n (s .pre .0) (at-ones .count-to .result) (at-twos .count-to2 .result) (at-ones .count-to .ensures)
+          (at-twos .count-to2 .ensures),
       embodied-self first,
       omega (arith, s .pre .1, overlaid-length (first .laid) (s .pre .1)),
     )
@@ -50,9 +52,11 @@ put-run-requires-3 c κs =
     let s = at-ones .before .before .before in
     let t = s .args .t .now in
     let n = s .args .n in
-    let both = embodied-trans (at-first .put-run .ensures .0) (at-second .put-run2 .ensures .0) (at-second .put-run2 .ensures .1) in (
+    let both =
+    embodied-trans (at-first .put-run .ensures .0) (at-second .put-run2 .ensures .0) (at-second .put-run2 .ensures .1) in (
       own-count t n (s .pre .0),
-      run-threes t n (s .pre .0) (at-ones .count-to .result) (at-twos .count-to2 .result) (at-ones .count-to .ensures) (at-twos .count-to2 .ensures),
+      run-threes t n (s .pre .0) (at-ones .count-to .result) (at-twos .count-to2 .result) (at-ones .count-to .ensures)
+          (at-twos .count-to2 .ensures),
       embodied-self both,
       omega (arith, s .pre .1, overlaid-length (both .laid) (s .pre .1)),
     )
@@ -66,8 +70,10 @@ returns c =
     let at-second = at-third .before .before .before .before in
     let at-first = at-second .before .before .before .before in
     let s = at-first .before .before .before .before .before .before in
-    let both = embodied-trans (at-first .put-run .ensures .0) (at-second .put-run2 .ensures .0) (at-second .put-run2 .ensures .1) in
-    embodied-all (s .args .t .now) (s .args .n) (s .pre .0) (embodied-trans both (at-third .put-run3 .ensures .0) (at-third .put-run3 .ensures .1)) (omega arith)
+    let both =
+    embodied-trans (at-first .put-run .ensures .0) (at-second .put-run2 .ensures .0) (at-second .put-run2 .ensures .1) in
+    embodied-all (s .args .t .now) (s .args .n) (s .pre .0) (embodied-trans both (at-third .put-run3 .ensures .0)
+    (at-third .put-run3 .ensures .1)) (omega arith)
 
 pub put-bodies-spec : {M : Type 1} → statement M
 put-bodies-spec =

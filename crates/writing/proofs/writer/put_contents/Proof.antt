@@ -1,5 +1,5 @@
--- `writer::put_contents`. The loop's invariant is `Entered`: the entries of the kinds passed are stored; their facts stand before `from`. The measure is the number of
--- kinds left. Assumes nothing.
+-- `writer::put_contents`. The loop's invariant is `Entered`: the entries of the kinds passed are stored; their facts stand before
+-- `from`. The measure is the number of kinds left. Assumes nothing.
 use native.Mathlib.Omega.{arith}
 use mathlib.Core.Path.{_≡_, _∙_}
 use Prim.Native.Nat.{_+_, _-_}
@@ -17,7 +17,8 @@ use Rattle.writing.proofs.writer.put_contents.Statement.{statement}
 use Rattle.writing.proofs.writer.put_contents.Tie as tie
 
 abbrev Inv-loop : tie.InvT-loop
-Inv-loop t n output₀ done₀ start₀ from₀ output done start from = Entered (filled t) output₀ output done start × (from ≡ below (take n t) (wordOf (done + 1) 0 0 0))
+Inv-loop t n output₀ done₀ start₀ from₀ output done start from =
+    Entered (filled t) output₀ output done start × (from ≡ below (take n t) (wordOf (done + 1) 0 0 0))
 
 abbrev μ-loop : tie.MeasureT-loop
 μ-loop t n output₀ done₀ start₀ from₀ output done start from = form .entries - done
@@ -56,7 +57,11 @@ sub-count : tie.Need-sub-count Inv-loop μ-loop
 sub-count c =
     let at-loop = c .before .before .before in
     let s = at-loop .before .before .before in
-    omega (arith, kind-order (s .args .t .now) (s .args .n) (s .pre .0) (at-loop .loop .done + 1) (at-loop .loop .from) (c .count-to .result) (at-loop .loop .inv .1) (c .count-to .ensures))
+    omega (
+      arith,
+      kind-order (s .args .t .now) (s .args .n) (s .pre .0) (at-loop .loop .done + 1) (at-loop .loop .from)
+          (c .count-to .result) (at-loop .loop .inv .1) (c .count-to .ensures),
+    )
 
 put-entry-requires : tie.Need-put-entry-requires Inv-loop μ-loop
 put-entry-requires c κs =
@@ -64,7 +69,8 @@ put-entry-requires c κs =
     let at-loop = at-count .before .before .before in
     let s = at-loop .before .before .before in
     let long = entered-length (at-loop .loop .inv .0) (simp length-set (s .pre .1)) in
-    let found = kind-found (s .args .t .now) (s .args .n) (s .pre .0) (at-loop .loop .done + 1) (at-loop .loop .from) (at-count .count-to .result) (at-loop .loop .inv .1) (at-count .count-to .ensures) in (
+    let found = kind-found (s .args .t .now) (s .args .n) (s .pre .0) (at-loop .loop .done + 1) (at-loop .loop .from)
+    (at-count .count-to .result) (at-loop .loop .inv .1) (at-count .count-to .ensures) in (
       omega arith,
       omega (arith, at-count .before .before .loop-test .taken),
       omega (arith, simp length-set at long, s .pre .1, image-whole (s .args .t .now) (s .args .n) (s .pre .0)),
@@ -77,16 +83,23 @@ mul-start c =
     let at-count = c .before .before .before .before in
     let at-loop = at-count .before .before .before in
     let s = at-loop .before .before .before in
-    let found = kind-found (s .args .t .now) (s .args .n) (s .pre .0) (at-loop .loop .done + 1) (at-loop .loop .from) (at-count .count-to .result) (at-loop .loop .inv .1) (at-count .count-to .ensures) in
-    omega (arith, product-small (at-count .before .fact-size .result) (at-count .count-to .result - at-loop .loop .from) (at-count .before .fact-size .ensures .1) (omega (arith, found .1)))
+    let found = kind-found (s .args .t .now) (s .args .n) (s .pre .0) (at-loop .loop .done + 1) (at-loop .loop .from)
+    (at-count .count-to .result) (at-loop .loop .inv .1) (at-count .count-to .ensures) in
+    omega (
+      arith,
+      product-small (at-count .before .fact-size .result) (at-count .count-to .result - at-loop .loop .from)
+          (at-count .before .fact-size .ensures .1) (omega (arith, found .1)),
+    )
 
 add-start : tie.Need-add-start Inv-loop μ-loop
 add-start c =
     let at-count = c .before .before .before .before in
     let at-loop = at-count .before .before .before in
     let s = at-loop .before .before .before in
-    let found = kind-found (s .args .t .now) (s .args .n) (s .pre .0) (at-loop .loop .done + 1) (at-loop .loop .from) (at-count .count-to .result) (at-loop .loop .inv .1) (at-count .count-to .ensures) in
-    let next = entered-more (at-loop .loop .inv .0) (at-count .before .before .loop-test .taken) _ _ (at-count .before .fact-size .ensures .0) (found .0) _ (c .before .before .put-entry .ensures) in
+    let found = kind-found (s .args .t .now) (s .args .n) (s .pre .0) (at-loop .loop .done + 1) (at-loop .loop .from)
+    (at-count .count-to .result) (at-loop .loop .inv .1) (at-count .count-to .ensures) in
+    let next = entered-more (at-loop .loop .inv .0) (at-count .before .before .loop-test .taken) _ _
+    (at-count .before .fact-size .ensures .0) (found .0) _ (c .before .before .put-entry .ensures) in
     omega (arith, measured-within (next .measured), image-small (s .args .t .now) (s .args .n) (s .pre .0))
 
 loop-less : tie.Need-loop-less Inv-loop μ-loop
@@ -97,11 +110,16 @@ loop-again c =
     let at-count = c .before .before .before .before in
     let at-loop = at-count .before .before .before in
     let s = at-loop .before .before .before in
-    let found = kind-found (s .args .t .now) (s .args .n) (s .pre .0) (at-loop .loop .done + 1) (at-loop .loop .from) (at-count .count-to .result) (at-loop .loop .inv .1) (at-count .count-to .ensures) in
-    (entered-more (at-loop .loop .inv .0) (at-count .before .before .loop-test .taken) _ _ (at-count .before .fact-size .ensures .0) (found .0) _ (c .before .before .put-entry .ensures), at-count .count-to .ensures)
+    let found = kind-found (s .args .t .now) (s .args .n) (s .pre .0) (at-loop .loop .done + 1) (at-loop .loop .from)
+    (at-count .count-to .result) (at-loop .loop .inv .1) (at-count .count-to .ensures) in (
+      entered-more (at-loop .loop .inv .0) (at-count .before .before .loop-test .taken) _ _
+          (at-count .before .fact-size .ensures .0) (found .0) _ (c .before .before .put-entry .ensures),
+      at-count .count-to .ensures,
+    )
 
 same-length : tie.Need-same-length Inv-loop μ-loop
-same-length c = entered-length (c .before .loop .inv .0) (simp length-set (c .before .before .before .before .pre .1)) ∙ simp length-set
+same-length c = entered-length (c .before .loop .inv .0) (simp length-set (c .before .before .before .before .pre .1))
+    ∙ simp length-set
 
 returns : tie.Need-returns Inv-loop μ-loop
 returns c =

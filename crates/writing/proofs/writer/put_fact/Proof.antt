@@ -27,7 +27,8 @@ same-length c = search needs
 returns : tie.Need-returns
 returns c =
     let s = c .before .before .before in
-    put-one (s .args .w) (s .pre .0) (s .args .output .now) (s .args .at) (s .pre .1) (sym (s .pre .2) ∙ c .if1 .taken) (c .before .first-of .result) (c .before .first-of .ensures)
+    put-one (s .args .w) (s .pre .0) (s .args .output .now) (s .args .at) (s .pre .1) (sym (s .pre .2) ∙ c .if1 .taken)
+    (c .before .first-of .result) (c .before .first-of .ensures)
 
 second-of-requires : tie.Need-second-of-requires
 second-of-requires c κs = search needs
@@ -41,7 +42,14 @@ add-output c = search needs
 slice-write-output-2 : tie.Need-slice-write-output-2
 slice-write-output-2 c =
     let s = c .before .before .before .before in
-    simp length-set (omega (arith, s .pre .2, c .before .if1 .left, fact-size-is (s .args .w) (s .pre .0), word-kind (s .args .w) (s .pre .0) .some, s .pre .1))
+    simp length-set (omega (
+      arith,
+      s .pre .2,
+      c .before .if1 .left,
+      fact-size-is (s .args .w) (s .pre .0),
+      word-kind (s .args .w) (s .pre .0) .some,
+      s .pre .1,
+    ))
 
 add-result-2 : tie.Need-add-result-2
 add-result-2 c = search needs
@@ -53,7 +61,8 @@ returns-2 : tie.Need-returns-2
 returns-2 c =
     let at-first = c .before .before .before in
     let s = at-first .before .before in
-    put-two (s .args .w) (s .pre .0) (s .args .output .now) (s .args .at) (s .pre .1) (sym (s .pre .2) ∙ c .if2 .taken) (at-first .first-of .result) (c .before .second-of .result) (at-first .first-of .ensures) (c .before .second-of .ensures)
+    put-two (s .args .w) (s .pre .0) (s .args .output .now) (s .args .at) (s .pre .1) (sym (s .pre .2) ∙ c .if2 .taken)
+    (at-first .first-of .result) (c .before .second-of .result) (at-first .first-of .ensures) (c .before .second-of .ensures)
 
 third-of-requires : tie.Need-third-of-requires
 third-of-requires c κs = search needs
@@ -67,7 +76,15 @@ add-output-2 c = search needs
 slice-write-output-3 : tie.Need-slice-write-output-3
 slice-write-output-3 c =
     let s = c .before .before .before .before .before .before in
-    simp length-set (omega (arith, s .pre .2, c .before .before .before .if1 .left, c .before .if2 .left, fact-size-is (s .args .w) (s .pre .0), word-kind (s .args .w) (s .pre .0) .some, s .pre .1))
+    simp length-set (omega (
+      arith,
+      s .pre .2,
+      c .before .before .before .if1 .left,
+      c .before .if2 .left,
+      fact-size-is (s .args .w) (s .pre .0),
+      word-kind (s .args .w) (s .pre .0) .some,
+      s .pre .1,
+    ))
 
 add-result-3 : tie.Need-add-result-3
 add-result-3 c = search needs
@@ -81,8 +98,16 @@ returns-3 c =
     let at-first = at-second .before .before in
     let s = at-first .before .before in
     let is = word-kind (s .args .w) (s .pre .0) in
-    put-three (s .args .w) (s .pre .0) (s .args .output .now) (s .args .at) (s .pre .1) (omega (arith, s .pre .2, at-second .before .if1 .left, c .before .if2 .left, is .some, is .few))
-    (at-first .first-of .result) (at-second .second-of .result) (c .third-of .result) (at-first .first-of .ensures) (at-second .second-of .ensures) (c .third-of .ensures)
+    put-three (s .args .w) (s .pre .0) (s .args .output .now) (s .args .at) (s .pre .1) (omega (
+      arith,
+      s .pre .2,
+      at-second .before .if1 .left,
+      c .before .if2 .left,
+      is .some,
+      is .few,
+    ))
+    (at-first .first-of .result) (at-second .second-of .result) (c .third-of .result) (at-first .first-of .ensures)
+    (at-second .second-of .ensures) (c .third-of .ensures)
 
 pub put-fact-spec : {M : Type 1} → statement M
 put-fact-spec =

@@ -1,0 +1,45 @@
+-- `gone::flag_for_member`: b and what is below, and its properties. Assumes nothing.
+use denote.Ref.{now}
+use Rattle.rdfs.specs.Numbers.{product}
+use Rattle.rdfs.specs.Words.{facts}
+use Rattle.flags.proofs.Added.{adds-none}
+use Rattle.deletion.proofs.FlagsOf.{led-from}
+use borrow.Author.Needs.{needs}
+use Rattle.deletion.proofs.gone.flag_for_member.Statement.{statement}
+use Rattle.deletion.proofs.gone.flag_for_member.Tie as tie
+
+flag-under-requires : tie.Need-flag-under-requires
+flag-under-requires c κs = search needs
+
+flag-properties-requires : tie.Need-flag-properties-requires
+flag-properties-requires c κs = search needs
+
+same-length : tie.Need-same-length
+same-length c = search needs
+
+same-length-2 : tie.Need-same-length-2
+same-length-2 c = search needs
+
+same-length-3 : tie.Need-same-length-3
+same-length-3 c = search needs
+
+returns : tie.Need-returns
+returns c =
+    let flag-under = c .before .before .before .before .before .before .before .before .before .before .flag-under in
+    let start =
+    c .before .before .before .before .before .before .before .before .before .before .before .before .before .before .before
+    .before in
+    let leads = c .before .before .before .before .flag-properties .ensures in
+    led-from (facts product (now (start .args .t))) (adds-none (start .pre .2 .says) (flag-under .ensures))
+    (adds-none (start .pre .3 .says) (leads .0)) (adds-none (start .pre .4 .says) (leads .1))
+
+pub flag-for-member-spec : {M : Type 1} → statement M
+flag-for-member-spec =
+    tie.close
+    (tie.spec
+    flag-under-requires
+    flag-properties-requires
+    same-length
+    same-length-2
+    same-length-3
+    returns)

@@ -1,5 +1,0 @@
-pub mod Runs
-pub mod Graphs
-pub mod Marks
-pub mod Asked
-pub mod Earlier

@@ -1,0 +1,5 @@
+pub mod Spans
+pub mod Graphs
+pub mod Stamps
+pub mod Asked
+pub mod Earlier

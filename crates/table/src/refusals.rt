@@ -1,0 +1,32 @@
+// The refusals, each by its number: the only place of these numbers in code. docs/REFUSALS.md says who can
+// cause each and which calls give it; the definition of the same name says when. 0 is no refusal; 15 to 20
+// are free.
+
+// 1: a table of no words or above the most.
+pub const BAD_SIZE: u8 = 1;
+// 2: a table not laid out.
+pub const BAD_LAYOUT: u8 = 2;
+// 3: a table, or an image's graph, not consistent.
+pub const INCONSISTENT: u8 = 3;
+// 4: a ticket's length.
+pub const BAD_LENGTH: u8 = 4;
+// 5: a ticket's operation.
+pub const BAD_OPERATION: u8 = 5;
+// 6: a ticket's kind.
+pub const BAD_KIND: u8 = 6;
+// 7: an unused byte not 0, id 1 out of place, or an id above the highest.
+pub const BAD_IDS: u8 = 7;
+// 8: deletion of Cl(0), or of CSub or CI with b = 0.
+pub const GUARDED: u8 = 8;
+// 9: insertion of PSub or PI with an id that is no property of the table.
+pub const UNKNOWN_PROPERTY: u8 = 9;
+// 10: insertion where no consistent graph holds the table and the asked facts.
+pub const CLASHING: u8 = 10;
+// 11: the new graph, or an image's, has more facts than the table has words.
+pub const TOO_MANY: u8 = 11;
+// 12: an image not of its form.
+pub const MALFORMED: u8 = 12;
+// 13: an output shorter than the image.
+pub const SHORT_OUTPUT: u8 = 13;
+// 14: fewer answer bytes than tickets.
+pub const FEW_ANSWERS: u8 = 14;
