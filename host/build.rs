@@ -1,5 +1,5 @@
-//! Links the archive of the proved library: from the folder in VIMELOSA_ARCHIVE_DIR, or from ../target/staticlib, where
-//! `rt staticlib vimelosa` puts it.
+//! Links the archive of the proved library: from the folder in VIMELOSA_ARCHIVE_DIR, or from
+//! ../target/staticlib, where `rt staticlib vimelosa` puts it.
 
 use std::env;
 use std::path::{Path, PathBuf};

@@ -19,8 +19,8 @@ fn main() -> Result<(), Box<dyn Error>> {
     println!("{} bytes saved and loaded, {} facts", saved.len(), loaded.count_facts());
 
     let cut_off = Graph::load(&saved[..saved.len() - 1]);
-    assert_eq!(cut_off, Err(Refusal::MalformedImage));
-    println!("cut off by a byte: {}", Refusal::MalformedImage);
+    assert_eq!(cut_off, Err(Refusal::Malformed));
+    println!("cut off by a byte: {}", Refusal::Malformed);
     Ok(())
 }
 

@@ -1,5 +1,6 @@
-//! The plant editor: members are entered first and the classes are linked late. The order does not matter; every member is
-//! in every class above its own, and the graph is the same as if the tree had been drawn first.
+//! The plant editor: members are entered first and the classes are linked late. The order does not matter;
+//! every member is in every class above its own, and the graph is the same as if the tree had been drawn
+//! first.
 
 use vimelosa_host::{Fact, Graph, Refusal, Ticket};
 

@@ -1,5 +1,6 @@
-//! The start call: when a container starts, the runtime asks which individuals have its port as value of a property. All
-//! consequences are in the graph already, so the answer is one walk over the values in the image.
+//! The start call: when a container starts, the runtime asks which individuals have its port as value of a
+//! property. All consequences are in the graph already, so the answer is one walk over the values in the
+//! image.
 
 use vimelosa_host::{Fact, Graph, Kind, Range, Refusal, Ticket};
 

@@ -21,8 +21,8 @@ pub struct Applied {
     pub length: usize,
 }
 
-/// Applies a ticket of any length to an image and writes the new image to the output. A refusal leaves the output as it
-/// was.
+/// Applies a ticket of any length to an image and writes the new image to the output. A refusal leaves the
+/// output as it was.
 ///
 /// ```
 /// use vimelosa_host::{apply_ticket, Graph, Refusal};
@@ -33,8 +33,8 @@ pub struct Applied {
 /// assert_eq!((applied.change.added, applied.length), (2, 66));
 ///
 /// let short = &mut output[..65];
-/// assert_eq!(apply_ticket(fresh.image(), &[1, 1, 2, 0, 0], short), Err(Refusal::OutputShort));
-/// assert_eq!(apply_ticket(fresh.image(), &[1, 1, 2], short), Err(Refusal::TicketLength));
+/// assert_eq!(apply_ticket(fresh.image(), &[1, 1, 2, 0, 0], short), Err(Refusal::ShortOutput));
+/// assert_eq!(apply_ticket(fresh.image(), &[1, 1, 2], short), Err(Refusal::BadLength));
 /// # Ok::<(), Refusal>(())
 /// ```
 pub fn apply_ticket(image: &[u8], ticket: &[u8], output: &mut [u8]) -> Result<Applied, Refusal> {
@@ -42,7 +42,7 @@ pub fn apply_ticket(image: &[u8], ticket: &[u8], output: &mut [u8]) -> Result<Ap
     match Refusal::try_from(number) {
         Ok(refusal) => Err(refusal),
         Err(0) => Ok(Applied { change: Change { added, removed }, length: usize::from(length) }),
-        Err(other) => unreachable!("the host call answers 0 to 14, not {other}"),
+        Err(other) => unreachable!("the host call answers 0 or a refusal, not {other}"),
     }
 }
 

@@ -1,5 +1,5 @@
-//! Facts and their kinds. A class, property, individual or literal is named by its id, a byte; 0 is rdfs:Resource, and 1 is
-//! the mark Literal, which names none of them.
+//! Facts and their kinds. A class, property, individual or literal is named by its id, a byte; 0 is
+//! rdfs:Resource, and 1 is the mark Literal, which names none of them.
 
 use crate::Refusal;
 
@@ -65,8 +65,8 @@ impl Kind {
     }
 }
 
-/// What the values of a property are. In a word, a ticket or an image it is one id, the mark for literals, so no class of
-/// a range has id 1.
+/// What the values of a property are. In a word, a ticket or an image it is one id, the mark for literals, so
+/// no class of a range has id 1.
 ///
 /// ```
 /// use vimelosa_host::{Fact, Graph, Range, Refusal, Ticket};
@@ -77,15 +77,15 @@ impl Kind {
 /// assert!(graph.has(Fact::Range { property: connected_to, range: Range::class(port)? }));
 /// assert!(graph.has(Fact::Range { property: serial_number, range: Range::Literal }));
 ///
-/// assert_eq!(Range::class(1), Err(Refusal::Bytes));
+/// assert_eq!(Range::class(1), Err(Refusal::BadIds));
 /// # Ok::<(), Refusal>(())
 /// ```
 #[derive(Clone, Copy, PartialEq, Eq, PartialOrd, Ord, Debug)]
 pub enum Range {
     /// Literals.
     Literal,
-    /// Members of a class. Outside this crate [`Range::class`] alone makes it, so that the class is never the mark; it is
-    /// matched as `Range::Class { class, .. }`.
+    /// Members of a class. Outside this crate [`Range::class`] alone makes it, so that the class is never the
+    /// mark; it is matched as `Range::Class { class, .. }`.
     #[non_exhaustive]
     Class {
         /// The class, whose id is not 1.
@@ -94,12 +94,13 @@ pub enum Range {
 }
 
 impl Range {
-    /// The members of a class. Id 1 is refused with 7 ([`Refusal::Bytes`]), as in a ticket: the mark is no class.
+    /// The members of a class. Id 1 is refused with 7 ([`Refusal::BadIds`]), as in a ticket: the mark is no
+    /// class.
     ///
     /// ```
     /// use vimelosa_host::{Range, Refusal};
     /// assert!(matches!(Range::class(3), Ok(Range::Class { class: 3, .. })));
-    /// assert_eq!(Range::class(1), Err(Refusal::Bytes));
+    /// assert_eq!(Range::class(1), Err(Refusal::BadIds));
     /// ```
     ///
     /// The variant itself cannot be written:
@@ -109,7 +110,7 @@ impl Range {
     /// ```
     pub fn class(class: u8) -> Result<Range, Refusal> {
         match Range::of_id(class) {
-            Range::Literal => Err(Refusal::Bytes),
+            Range::Literal => Err(Refusal::BadIds),
             range => Ok(range),
         }
     }

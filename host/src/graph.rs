@@ -65,7 +65,7 @@ impl Graph {
     /// use vimelosa_host::{Graph, Refusal};
     /// let saved = Graph::fresh().image().to_vec();
     /// assert_eq!(Graph::load(&saved), Ok(Graph::fresh()));
-    /// assert_eq!(Graph::load(&saved[1..]), Err(Refusal::MalformedImage));
+    /// assert_eq!(Graph::load(&saved[1..]), Err(Refusal::Malformed));
     /// ```
     pub fn load(image: &[u8]) -> Result<Graph, Refusal> {
         // Resource is in every consistent graph, so this ticket is accepted and changes nothing.

@@ -1,9 +1,12 @@
-//! The Rust host of Vimelosa's equipment graph: one RDF/S graph, kept as an image and changed by tickets. The work is done
-//! by a proved library behind one C function; this crate gives it the types of the field.
+//! The Rust host of Vimelosa's equipment graph: one RDF/S graph, kept as an image and changed by tickets. The
+//! work is done by a proved library behind one C function; this crate gives it the types of the field.
 //!
-//! - [`Graph`] holds an image. [`Graph::apply`] runs one [`Ticket`] and answers the [`Change`] or the [`Refusal`].
-//! - [`Fact`] and [`Kind`] are what a graph is made of; [`Graph::facts`] reads the facts of a kind off the image.
-//! - [`apply_ticket`] is the same call over bytes that the caller lends, and [`call_raw`] gives its number as it comes.
+//! - [`Graph`] holds an image. [`Graph::apply`] runs one [`Ticket`] and answers the [`Change`] or the
+//!   [`Refusal`].
+//! - [`Fact`] and [`Kind`] are what a graph is made of; [`Graph::facts`] reads the facts of a kind off the
+//!   image.
+//! - [`apply_ticket`] is the same call over bytes that the caller lends, and [`call_raw`] gives its number as
+//!   it comes.
 //!
 //! Kind, ticket, image, body, refusal and the mark Literal are the words of the specification, document 01.
 //!
@@ -23,7 +26,7 @@
 //!
 //! // Two classes are never subclasses of each other, and a refused ticket changes nothing.
 //! let before = graph.clone();
-//! assert_eq!(graph.apply(Ticket::insert_subclass(machine, pump)), Err(Refusal::Clash));
+//! assert_eq!(graph.apply(Ticket::insert_subclass(machine, pump)), Err(Refusal::Clashing));
 //! assert_eq!(graph, before);
 //! # Ok::<(), Refusal>(())
 //! ```

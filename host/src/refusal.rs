@@ -1,67 +1,71 @@
-//! The reasons for which a call refuses, with document 01's numbers.
+//! The reasons for which a call refuses, with document 01's numbers. Each has the name of the definition and
+//! of the library's constant: `badIds`, `BAD_IDS`, `BadIds`. docs/REFUSALS.md has who can cause it and which
+//! calls give it.
 
 use std::error::Error;
 use std::fmt;
 
 /// Why a call refused, each with document 01's number and words. A refusal leaves all lent memory as it was.
+/// More will follow, 15 to 20, so a `match` on it has an arm for the others.
 #[derive(Clone, Copy, PartialEq, Eq, Debug)]
+#[non_exhaustive]
 #[repr(u16)]
 pub enum Refusal {
     /// 1: table of no words or above 2,048.
-    TableLength = 1,
+    BadSize = 1,
     /// 2: table not laid out: the facts ascending, none twice, then zeros to the end.
-    TableLayout = 2,
+    BadLayout = 2,
     /// 3: table not consistent; in reading, the image's graph.
-    NotConsistent = 3,
+    Inconsistent = 3,
     /// 4: a ticket's length not 5.
-    TicketLength = 4,
+    BadLength = 4,
     /// 5: operation, which is neither 1 (insert) nor 2 (delete).
-    Operation = 5,
+    BadOperation = 5,
     /// 6: kind, which is not 1 to 10, or is 7 or 8.
-    Kind = 6,
-    /// 7: an unused byte not 0, or id 1 anywhere but as c of an insertion of kind 2. [`Range::class`](crate::Range::class)
-    /// answers it too, for id 1.
-    Bytes = 7,
+    BadKind = 6,
+    /// 7: an unused byte not 0, or id 1 anywhere but as c of an insertion of kind 2.
+    /// [`Range::class`](crate::Range::class) answers it too, for id 1.
+    BadIds = 7,
     /// 8: deletion of Cl(0), or of CSub or CI with b = 0, present or not.
-    NeverDeleted = 8,
+    Guarded = 8,
     /// 9: inserting PSub with a or b not a property of the table, or PI with c not one.
     UnknownProperty = 9,
     /// 10: inserting where no consistent graph holds table and asked facts.
-    Clash = 10,
+    Clashing = 10,
     /// 11: the new graph (in reading, the image's) has more facts than the table has words.
-    Full = 11,
+    TooMany = 11,
     /// 12: image malformed.
-    MalformedImage = 12,
+    Malformed = 12,
     /// 13: output shorter than the image.
-    OutputShort = 13,
+    ShortOutput = 13,
     /// 14: fewer answer bytes than tickets.
-    AnswersShort = 14,
+    FewAnswers = 14,
 }
 
 impl Refusal {
-    /// All refusals, by number.
+    /// All refusals, by number: the only list of them in this package.
     pub const ALL: [Refusal; 14] = [
-        Refusal::TableLength,
-        Refusal::TableLayout,
-        Refusal::NotConsistent,
-        Refusal::TicketLength,
-        Refusal::Operation,
-        Refusal::Kind,
-        Refusal::Bytes,
-        Refusal::NeverDeleted,
+        Refusal::BadSize,
+        Refusal::BadLayout,
+        Refusal::Inconsistent,
+        Refusal::BadLength,
+        Refusal::BadOperation,
+        Refusal::BadKind,
+        Refusal::BadIds,
+        Refusal::Guarded,
         Refusal::UnknownProperty,
-        Refusal::Clash,
-        Refusal::Full,
-        Refusal::MalformedImage,
-        Refusal::OutputShort,
-        Refusal::AnswersShort,
+        Refusal::Clashing,
+        Refusal::TooMany,
+        Refusal::Malformed,
+        Refusal::ShortOutput,
+        Refusal::FewAnswers,
     ];
 
     /// Document 01's number.
     ///
     /// ```
     /// use vimelosa_host::Refusal;
-    /// assert_eq!(Refusal::Clash.number(), 10);
+    /// assert_eq!(Refusal::Clashing.number(), 10);
     /// ```
     pub fn number(self) -> u16 {
         self as u16
@@ -70,31 +74,32 @@ impl Refusal {
     /// What is wrong, in a sentence for the one who caused it.
     pub fn sentence(self) -> &'static str {
         match self {
-            Refusal::TableLength => "The table has no words or more than 2,048.",
-            Refusal::TableLayout => "The table is not facts in ascending order followed by zeros.",
-            Refusal::NotConsistent => "The graph breaks a rule.",
-            Refusal::TicketLength => "The ticket is not five bytes long.",
-            Refusal::Operation => "The ticket neither inserts nor deletes.",
-            Refusal::Kind => "The ticket names a kind that no ticket can have.",
-            Refusal::Bytes => "An unused byte is not 0, or the mark Literal stands out of place.",
-            Refusal::NeverDeleted => "A ticket cannot delete Resource, or a link or a membership to it.",
+            Refusal::BadSize => "The table has no words or more than 2,048.",
+            Refusal::BadLayout => "The table is not facts in ascending order followed by zeros.",
+            Refusal::Inconsistent => "The graph breaks a rule.",
+            Refusal::BadLength => "The ticket is not five bytes long.",
+            Refusal::BadOperation => "The ticket neither inserts nor deletes.",
+            Refusal::BadKind => "The ticket names a kind that no ticket can have.",
+            Refusal::BadIds => "An unused byte is not 0, or the mark Literal stands out of place.",
+            Refusal::Guarded => "A ticket cannot delete Resource, or a link or a membership to it.",
             Refusal::UnknownProperty => "The ticket uses a property that the graph does not have.",
-            Refusal::Clash => "The ticket clashes with what the graph holds.",
-            Refusal::Full => "The graph would have more facts than the table has room for.",
-            Refusal::MalformedImage => "The image is malformed.",
-            Refusal::OutputShort => "The output is too short for the image.",
-            Refusal::AnswersShort => "There are fewer answer bytes than tickets.",
+            Refusal::Clashing => "The ticket clashes with what the graph holds.",
+            Refusal::TooMany => "The graph would have more facts than the table has room for.",
+            Refusal::Malformed => "The image is malformed.",
+            Refusal::ShortOutput => "The output is too short for the image.",
+            Refusal::FewAnswers => "There are fewer answer bytes than tickets.",
         }
     }
 }
 
-/// The refusal of an answer's number, or the number itself where it is none: 0, and those above 14, which no call answers.
+/// The refusal of an answer's number, or the number itself where it is none: 0, and those that no refusal
+/// has.
 ///
 /// ```
 /// use vimelosa_host::Refusal;
-/// assert_eq!(Refusal::try_from(10), Ok(Refusal::Clash));
+/// assert_eq!(Refusal::try_from(10), Ok(Refusal::Clashing));
 /// assert_eq!(Refusal::try_from(0), Err(0));
-/// assert_eq!(Refusal::try_from(15), Err(15));
+/// assert_eq!(Refusal::try_from(1000), Err(1000));
 /// ```
 impl TryFrom<u16> for Refusal {
     type Error = u16;

@@ -5,9 +5,9 @@ use crate::fact::{Kind, Range};
 const INSERT: u8 = 1;
 const DELETE: u8 = 2;
 
-/// One insertion or deletion. An insertion brings its side effects with it and never deletes; a deletion takes what can
-/// no longer stand. Id 1 is the mark Literal and names nothing: a ticket that has it as the id of a class, property,
-/// individual or literal is refused with 7.
+/// One insertion or deletion. An insertion brings its side effects with it and never deletes; a deletion
+/// takes what can no longer stand. Id 1 is the mark Literal and names nothing: a ticket that has it as the id
+/// of a class, property, individual or literal is refused with 7.
 #[derive(Clone, Copy, PartialEq, Eq, Debug)]
 pub struct Ticket {
     bytes: [u8; 5],

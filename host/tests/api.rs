@@ -92,16 +92,50 @@ fn facts_of_a_graph_are_those_of_its_image() {
 }
 
 #[test]
-fn refusals_have_the_numbers_1_to_14_and_a_sentence_each() {
+fn refusals_are_numbered_from_1_on_and_have_a_sentence_each() {
     for (number, refusal) in (1..).zip(Refusal::ALL) {
         assert_eq!(refusal.number(), number);
         assert_eq!(Refusal::try_from(number), Ok(refusal));
         assert!(refusal.sentence().ends_with('.'));
         assert_eq!(refusal.to_string(), format!("refusal {number}: {}", refusal.sentence()));
     }
-    for number in (0..=u16::MAX).filter(|number| !(1..=14).contains(number)) {
+    let has_number = |number: u16| Refusal::ALL.iter().any(|refusal| refusal.number() == number);
+    for number in (0..=u16::MAX).filter(|number| !has_number(*number)) {
         assert_eq!(Refusal::try_from(number), Err(number));
     }
+}
+
+/// `BadIds` is `BAD_IDS` in the library's code, with the same number, and `badIds` in its definitions. No
+/// refusal is in one list and not in the others.
+#[test]
+fn refusals_have_one_name() {
+    let code = include_str!("../../crates/table/src/refusals.rt");
+    let in_code: Vec<&str> = code.lines().filter(|line| line.starts_with("pub const")).collect();
+    let constant =
+        |refusal: &Refusal| format!("pub const {}: u8 = {};", upper_case(*refusal), refusal.number());
+    assert_eq!(in_code, Refusal::ALL.iter().map(constant).collect::<Vec<_>>());
+
+    let document = include_str!("../../docs/REFUSALS.md");
+    let rows = document.lines().filter(|line| line.starts_with("| ") && line.matches('`').count() == 8);
+    let in_document: Vec<&str> = rows.map(|row| row.rsplit_once(" | ").unwrap().0).collect();
+    let row = |refusal: &Refusal| {
+        let name = format!("{refusal:?}");
+        let definition = format!("{}{}", name[..1].to_lowercase(), &name[1..]);
+        format!("| {} | `{definition}` | `{}` | `{name}`", refusal.number(), upper_case(*refusal))
+    };
+    assert_eq!(in_document, Refusal::ALL.iter().map(row).collect::<Vec<_>>());
+}
+
+/// The name of a refusal in the library's code.
+fn upper_case(refusal: Refusal) -> String {
+    let mut name = String::new();
+    for letter in format!("{refusal:?}").chars() {
+        if letter.is_uppercase() && !name.is_empty() {
+            name.push('_');
+        }
+        name.push(letter.to_ascii_uppercase());
+    }
+    name
 }
 
 #[test]
@@ -114,7 +148,7 @@ fn kinds_have_the_numbers_1_to_10() {
 /// Each id but 1 is a class of a range, and 1 is none: word, ticket and graph tell all ranges apart.
 #[test]
 fn ranges_are_told_apart_by_their_ids() {
-    assert_eq!(Range::class(1), Err(Refusal::Bytes));
+    assert_eq!(Range::class(1), Err(Refusal::BadIds));
     let classes = (0..=255).filter(|id| *id != 1).map(|id| (id, Range::class(id).unwrap()));
     let ranges: Vec<(u8, Range)> = classes.chain([(1, Range::Literal)]).collect();
     for (id, range) in &ranges {
@@ -124,11 +158,12 @@ fn ranges_are_told_apart_by_their_ids() {
         assert_eq!(fact(*range).word(), u32::from_be_bytes([8, 20, *id, 0]));
         let mut graph = Graph::fresh();
         if *id == 20 {
-            assert_eq!(graph.apply(asked), Err(Refusal::Clash));
+            assert_eq!(graph.apply(asked), Err(Refusal::Clashing));
             continue;
         }
         graph.apply(asked).unwrap();
-        let held: Vec<u8> = ranges.iter().filter(|(_, other)| graph.has(fact(*other))).map(|(id, _)| *id).collect();
+        let held: Vec<u8> =
+            ranges.iter().filter(|(_, other)| graph.has(fact(*other))).map(|(id, _)| *id).collect();
         assert_eq!(held, [*id]);
     }
 }
@@ -165,6 +200,6 @@ fn tickets_that_name_something_by_id_1_are_refused() {
         Ticket::delete_value(4, 6, 1),
     ];
     for ticket in tickets {
-        assert_eq!(Graph::fresh().apply(ticket), Err(Refusal::Bytes), "{ticket:?}");
+        assert_eq!(Graph::fresh().apply(ticket), Err(Refusal::BadIds), "{ticket:?}");
     }
 }

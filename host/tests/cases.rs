@@ -100,7 +100,7 @@ fn program_two_prints_words_or_nothing() {
 }
 
 #[test]
-fn table_length_is_refusal_1() {
+fn bad_size_is_refusal_1() {
     for length in [0, 2049] {
         let mut table = vec![7; length];
         assert_eq!(fresh(&mut table), 1);
@@ -114,7 +114,7 @@ fn table_length_is_refusal_1() {
 }
 
 #[test]
-fn table_layout_is_refusal_2() {
+fn bad_layout_is_refusal_2() {
     let laid_wrong: [&[u32]; 7] = [
         &[0, 16777216],
         &[16777216, 16777216],
@@ -242,9 +242,11 @@ fn body_of_a_kind_is_a_part_of_the_image() {
     assert_eq!(body(image, CLASS), [0, 2, 3]);
     assert_eq!(body(image, RANGE), [5, 1]);
     assert_eq!(body(image, VALUE), [6, 7, 5]);
-    for (kind, start) in
-        [(SUBPROPERTY, body(image, DOMAIN).as_ptr()), (0, image.as_ptr_range().end), (11, image.as_ptr_range().end)]
-    {
+    for (kind, start) in [
+        (SUBPROPERTY, body(image, DOMAIN).as_ptr()),
+        (0, image.as_ptr_range().end),
+        (11, image.as_ptr_range().end),
+    ] {
         assert_eq!((body(image, kind).len(), body(image, kind).as_ptr()), (0, start));
     }
     assert_eq!(body(&image[..70], CLASS).as_ptr(), image[70..].as_ptr());

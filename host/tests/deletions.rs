@@ -12,16 +12,17 @@ use independent::graph::Graph;
 use independent::insertion::smallest;
 use independent::rules::is_consistent;
 use independent::table::fresh_graph;
-use independent::ticket::is_never_deleted;
+use independent::ticket::is_guarded;
 
 /// Facts that a ticket can delete: no domain, no range, none that refusal 8 keeps.
 fn deletable(graph: &Graph) -> Vec<Fact> {
     let is_asked = |fact: &Fact| fact.kind != DOMAIN && fact.kind != RANGE;
-    let can_go = |fact: &Fact| is_asked(fact) && !is_never_deleted(*fact);
+    let can_go = |fact: &Fact| is_asked(fact) && !is_guarded(*fact);
     graph.facts().filter(can_go).collect()
 }
 
-/// Compares both for every fact that can be asked for and has few enough facts open; answers how many were compared.
+/// Compares both for every fact that can be asked for and has few enough facts open; answers how many were
+/// compared.
 fn compare(graph: &Graph, most_open: usize) -> usize {
     let small = |fact: &Fact| brute::count_open(graph, *fact) <= most_open;
     let asked: Vec<Fact> = deletable(graph).into_iter().filter(small).collect();
@@ -57,8 +58,8 @@ fn the_search_finds_the_largest_part_of_members_and_values() {
     assert!(compared > 300, "{compared}");
 }
 
-/// Three properties one under the other over three classes one under the other: to take a class link away leaves a choice
-/// of subproperty links, domains and properties.
+/// Three properties one under the other over three classes one under the other: to take a class link away
+/// leaves a choice of subproperty links, domains and properties.
 fn linked_properties(ends: fn(u8, u8) -> Fact, others: fn(u8, u8) -> Fact) -> Graph {
     let mut asked = vec![subproperty(5, 6), subproperty(6, 7)];
     for step in 0..3 {
@@ -107,7 +108,8 @@ fn the_search_finds_what_trying_every_part_finds_in_any_graph() {
     assert!(found_none > compared / 20 && found_none < compared, "{found_none}");
 }
 
-/// Refusal 8 is there for a reason: a class with another superclass cannot lose its link to Resource and keep that one.
+/// Refusal 8 is there for a reason: a class with another superclass cannot lose its link to Resource and keep
+/// that one.
 #[test]
 fn a_link_to_resource_leaves_no_part() {
     let graph = smallest(&fresh_graph(), &[subclass(2, 3)]).unwrap();

@@ -19,7 +19,8 @@ fn fresh_table(words: usize) -> Vec<u32> {
     table
 }
 
-/// One accepted ticket: the words are a consistent table, nothing goes by an insertion, nothing comes by a deletion.
+/// One accepted ticket: the words are a consistent table, nothing goes by an insertion, nothing comes by a
+/// deletion.
 fn assert_step(old: &[u32], ticket: &[u8], new: &[u32], answer: Answer) {
     let (before, after) = (facts_of(old).unwrap(), facts_of(new).unwrap());
     assert_eq!(check(new), 0);

@@ -1,4 +1,5 @@
-//! The two implementations that the benchmark measures, beside the independent one: the same answers, the same bytes.
+//! The two implementations that the benchmark measures, beside the independent one: the same answers, the
+//! same bytes.
 
 #[path = "generator/mod.rs"]
 mod generator;
@@ -146,8 +147,8 @@ fn link_ticket(random: &mut Random) -> [u8; 5] {
     }
 }
 
-/// A property under another needs class links for the domains and the ranges: they may close a circle together though
-/// neither does alone, and with one of them the link between the properties goes.
+/// A property under another needs class links for the domains and the ranges: they may close a circle
+/// together though neither does alone, and with one of them the link between the properties goes.
 #[test]
 fn program_one_on_links() {
     let mut random = Random::for_test("rivals_on_links");

@@ -1,6 +1,6 @@
-//! The host call on a thread with a small stack: the tickets whose side effects nest deepest. A side effect is put in
-//! with side effects of its own, so the depth is that of the longest way through a graph: a chain of links below the new
-//! link, then a chain above it, where each step goes to the nearest id first.
+//! The host call on a thread with a small stack: the tickets whose side effects nest deepest. A side effect
+//! is put in with side effects of its own, so the depth is that of the longest way through a graph: a chain
+//! of links below the new link, then a chain above it, where each step goes to the nearest id first.
 
 use std::thread;
 use vimelosa_host::{call_raw, Graph, Range, Ticket, LONGEST_IMAGE, RESOURCE};
@@ -10,10 +10,10 @@ const STACK: usize = 64 * 1024;
 
 const FIRST: u8 = 20;
 const ACCEPTED: u64 = 0;
-const FULL: u64 = 11;
+const TOO_MANY: u64 = 11;
 
-/// Two chains with the link from the top of the lower to the bottom of the upper left out. Ids rise with the distance
-/// from that link, so that the nearest comes first.
+/// Two chains with the link from the top of the lower to the bottom of the upper left out. Ids rise with the
+/// distance from that link, so that the nearest comes first.
 struct Chains {
     lower: Vec<u8>,
     upper: Vec<u8>,
@@ -68,7 +68,8 @@ fn property_chains(chains: &Chains) -> Graph {
     graph
 }
 
-/// Calls on a thread with a small stack and on the test's own, and compares the answers and all bytes of the outputs.
+/// Calls on a thread with a small stack and on the test's own, and compares the answers and all bytes of the
+/// outputs.
 fn call_on_small_stack(graph: &Graph, ticket: Ticket, expected: u64) {
     let image = graph.image().to_vec();
     let call = move |output: &mut [u8]| call_raw(&image, &ticket.bytes(), output);
@@ -94,7 +95,7 @@ fn class_chains_that_do_not_fit() {
     for (lower, upper) in [(42, 42), (42, 43), (41, 44), (43, 43), (10, 57), (57, 10)] {
         let chains = Chains::of_lengths(lower, upper);
         let (low, high) = chains.joint();
-        call_on_small_stack(&class_chains(&chains), Ticket::insert_subclass(low, high), FULL);
+        call_on_small_stack(&class_chains(&chains), Ticket::insert_subclass(low, high), TOO_MANY);
     }
 }
 
@@ -103,7 +104,7 @@ fn property_chains_that_do_not_fit() {
     for (lower, upper) in [(41, 41), (41, 40), (39, 39)] {
         let chains = Chains::of_lengths(lower, upper);
         let (low, high) = chains.joint();
-        call_on_small_stack(&property_chains(&chains), Ticket::insert_subproperty(low, high), FULL);
+        call_on_small_stack(&property_chains(&chains), Ticket::insert_subproperty(low, high), TOO_MANY);
     }
 }
 
@@ -117,5 +118,5 @@ fn class_chains_joined_by_a_property_link() {
     let member = Ticket::insert_member(200, chains.bottom());
     let ends = [(p, low), (q, high)].map(|(property, domain)| open_property(property, domain));
     run(&mut graph, [member].into_iter().chain(ends));
-    call_on_small_stack(&graph, Ticket::insert_subproperty(p, q), FULL);
+    call_on_small_stack(&graph, Ticket::insert_subproperty(p, q), TOO_MANY);
 }

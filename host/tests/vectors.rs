@@ -1,4 +1,5 @@
-//! The outside vectors on the independent implementation: the W3C suites and the worked examples of the papers.
+//! The outside vectors on the independent implementation: the W3C suites and the worked examples of the
+//! papers.
 
 mod independent;
 mod vector_files;
@@ -65,6 +66,7 @@ fn database_rearranged_has_the_same_words() {
 
 #[test]
 fn program_one_prints_the_database() {
-    let expected = "0 5 0\n0 4 0\n0 4 0\n0 5 0\n0 3 0\n0 3 0\n0 3 0\n0 1 0\n0 5 0\n0 5 0\n0 11 0\n0 4 0\n54\n";
+    let expected =
+        "0 5 0\n0 4 0\n0 4 0\n0 5 0\n0 3 0\n0 3 0\n0 3 0\n0 1 0\n0 5 0\n0 5 0\n0 11 0\n0 4 0\n54\n";
     assert_eq!(print_answers(&database()), expected);
 }

@@ -17,11 +17,11 @@ const ROUNDS: u64 = 5000;
 
 // Whether a check accepts the table, as 1 or 0. The first word of a consistent table is stored each time, so
 // that no check can stand for the next.
-fn check_again(t: &mut [Word; MOST]) -> u64
-    ensures { λ r. ⌜ r ≤ 1 ⌝ }
+fn check_again(table: &mut [Word; MOST]) -> u64
+    ensures bound { λ r. ⌜ r ≤ 1 ⌝ }
 {
-    t[0] = word_of(CLASS, RESOURCE, 0, 0);
-    let answer = check(t);
+    table[0] = word_of(CLASS, RESOURCE, 0, 0);
+    let answer = check(table);
     if answer == 0 {
         return 1;
     }
@@ -29,11 +29,11 @@ fn check_again(t: &mut [Word; MOST]) -> u64
 }
 
 // How many of the checks accept the table.
-fn count_accepted(t: &mut [Word; MOST]) -> u64 {
+fn count_accepted(table: &mut [Word; MOST]) -> u64 {
     let mut done = 0;
     let mut accepted = 0;
     while done < ROUNDS {
-        accepted += check_again(t);
+        accepted += check_again(table);
         done += 1;
     }
     accepted
@@ -41,17 +41,17 @@ fn count_accepted(t: &mut [Word; MOST]) -> u64 {
 
 fn main() {
     let mut input = [0u8; LONGEST + 1];
-    let n = io::read_full(STDIN_FILENO, &mut input);
-    if LONGEST < n {
+    let length = io::read_full(STDIN_FILENO, &mut input);
+    if LONGEST < length {
         return;
     }
     let zero: Word = 0;
-    let mut t = [zero; MOST];
-    let answer = read(&mut t, &input[..n]);
+    let mut table = [zero; MOST];
+    let answer = read(&mut table, &input[..length]);
     if answer != 0 {
         return;
     }
-    let accepted = count_accepted(&mut t);
+    let accepted = count_accepted(&mut table);
     io::print_decimal(STDOUT_FILENO, accepted);
     io::write_all(STDOUT_FILENO, b"\n");
 }

@@ -1,3 +1,3 @@
--- LookedFacts: for first_b. LookedRun: for first_with.
+-- LookedFacts: for first_b. SpanFirst: for first_with.
 mod LookedFacts
-mod LookedRun
+mod SpanFirst

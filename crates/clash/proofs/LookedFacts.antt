@@ -10,9 +10,9 @@ use Rattle.rdfs.specs.Lists.{_∈_, here}
 use Rattle.rdfs.specs.Facts.{Fact, kind, first}
 use Rattle.rdfs.specs.Demands.{withA}
 use Rattle.rdfs.specs.Lookups.{firstB}
-use Rattle.rdfs.proofs.Lists.{in-filter}
-use Rattle.rdfs.proofs.Allowed.{Allowed, fields}
-use Rattle.rdfs.proofs.LaidOut.{laid-allowed}
+use Rattle.rdfs.proofs.lists.ListLaws.{in-filter}
+use Rattle.rdfs.proofs.words.Allowed.{Allowed, fields}
+use Rattle.rdfs.proofs.words.LaidOut.{laid-allowed}
 use Rattle.table.specs.Parts.{secondOf}
 use Rattle.table.specs.Counted.{Counted, Id, factsOf}
 use Rattle.clash.specs.Looked.{firstWord}

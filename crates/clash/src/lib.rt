@@ -7,5 +7,5 @@ mod lookups;
 mod parts;
 
 pub use lookups::first_with;
+pub use lookups::has_property;
 pub use parts::clashes;
-pub use parts::has_property;

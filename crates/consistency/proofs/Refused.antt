@@ -12,9 +12,9 @@ use Rattle.rdfs.specs.Numbers.{product}
 use Rattle.rdfs.specs.Facts.{graph}
 use Rattle.rdfs.specs.Words.{laidOut, facts}
 use Rattle.rdfs.specs.Clashes.{consistent?}
-use Rattle.rdfs.specs.Register.{orElse, badSize, badLayout, inconsistent, layoutRefusal, tableRefusal}
-use Rattle.rdfs.proofs.Decision.{check-sound, check-complete}
-use Rattle.table.proofs.Answers.{is-true, is-false}
+use Rattle.rdfs.specs.Refusals.{orElse, badSize, badLayout, inconsistent, layoutRefusal, tableRefusal}
+use Rattle.rdfs.proofs.consistency.Decision.{check-sound, check-complete}
+use Rattle.table.proofs.TestAnswers.{is-true, is-false}
 use Rattle.table.proofs.Sizes.{tests-size}
 use Rattle.table.proofs.TableRefusals.{taken-laid}
 use Rattle.rules.specs.RuleOf.{ruleOf}
@@ -45,39 +45,43 @@ third true layout rest e = absurd (omega arith)
 third false true rest e = absurd (omega arith)
 third false false rest e = refl
 
-module _ (w : List ℕ) (a : ℕ) (e : a ≡ layoutRefusal product w 0) where
-  pub refused-first : (a ≡ 0 → ⊥) → a ≡ tableRefusal product w 0
-  refused-first n = first-two (badSize product w) (badLayout product w) (orElse (inconsistent product w) 3 0) a e n
+module _ (table : List ℕ) (a : ℕ) (e : a ≡ layoutRefusal product table 0) where
+  pub refused-first : (a ≡ 0 → ⊥) → a ≡ tableRefusal product table 0
+  refused-first n = first-two (badSize product table) (badLayout product table) (orElse (inconsistent product table) 3 0) a e n
 
   module _ (z : a ≡ 0) where
-    none : layoutRefusal product w 0 ≡ 0
+    none : layoutRefusal product table 0 ≡ 0
     none = sym e ∙ z
 
-    pub past-laid : T (laidOut product 1 w)
-    past-laid = taken-laid w none
+    pub past-laid : T (laidOut product 1 table)
+    past-laid = taken-laid table none
 
-    pub past-fits : length w ≤ product .most
-    past-fits = elim (decLt (product .most) (length w)) [
-      | yes h ↦ absurd (size-good (badSize product w) (badLayout product w) none (tests-size product w .complete (inr h)))
+    pub past-fits : length table ≤ product .most
+    past-fits = elim (decLt (product .most) (length table)) [
+      | yes h ↦ absurd (size-good (badSize product table) (badLayout product table) none (tests-size product table .complete
+          (inr h)))
       | no n ↦ omega (arith, n)
     ]
 
-    by-rules : (b : Bool) → inconsistent product w ≡ b → orElse b 3 0 ≡ tableRefusal product w 0
-    by-rules b q = sym (past-two (badSize product w) (badLayout product w) (orElse (inconsistent product w) 3 0) none
+    by-rules : (b : Bool) → inconsistent product table ≡ b → orElse b 3 0 ≡ tableRefusal product table 0
+    by-rules b q = sym (past-two (badSize product table) (badLayout product table) (orElse (inconsistent product table) 3 0) none
         ∙ ap (λ i. orElse i 3 0) q)
 
-    pub past-number : (v : Visited) → Answers (graph (facts product w)) rulesInOrder v → numberOf v ≡ tableRefusal product w 0
+    pub past-number : (v : Visited) → Answers (graph (facts product table)) rulesInOrder v
+        → numberOf v ≡ tableRefusal product table 0
     past-number AllMet m =
-        let K = facts product w in
+        let K = facts product table in
         let good : consistent? K ≡ true = is-true (check-complete K (all-consistent (graph K) m)) in
         by-rules false (ap not good)
     past-number (Broken r) f =
-        let K = facts product w in
+        let K = facts product table in
         let met : T (consistent? K) → MeetsAll (graph K) rulesInOrder = λ t. consistent-all (graph K) (check-sound K t) in
         let bad : consistent? K ≡ false = is-false (λ t. broken-not (graph K) rulesInOrder (ruleOf r) f (met t)) in
         by-rules true (ap not bad)
 
-pub refused-laid : (w : List ℕ) → 3 ≡ tableRefusal product w 0 → T (laidOut product 1 w) × (length w ≤ product .most)
-refused-laid w e =
-    let none : layoutRefusal product w 0 ≡ 0 = third (badSize product w) (badLayout product w) (inconsistent product w) e in
-    (past-laid w 0 (sym none) refl, past-fits w 0 (sym none) refl)
+pub refused-laid : (table : List ℕ) → 3 ≡ tableRefusal product table 0 → T (laidOut product 1 table)
+    × (length table ≤ product .most)
+refused-laid table e =
+    let none : layoutRefusal product table 0 ≡ 0 =
+    third (badSize product table) (badLayout product table) (inconsistent product table) e in
+    (past-laid table 0 (sym none) refl, past-fits table 0 (sym none) refl)

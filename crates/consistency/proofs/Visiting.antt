@@ -11,7 +11,7 @@ use lib.ListN.{length}
 use Rattle.rdfs.specs.Facts.{Graph}
 use Rattle.rdfs.specs.Rules.{Rule, Meets}
 use Rattle.rdfs.specs.Consistency.{Consistent}
-use Rattle.spans.specs.Earlier.{Earlier}
+use Rattle.rules.specs.Earlier.{Earlier}
 use Rattle.consistency.specs.Order.{rulesInOrder, ruleAt, MeetsAll, none, also, FirstBroken, here, later}
 
 -- Each rule before place i is met.

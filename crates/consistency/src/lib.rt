@@ -19,8 +19,9 @@ ghost use lib.Dec.{T};
 ghost use lib.ListN.{length};
 ghost use Rattle.rdfs.specs.Numbers.{product};
 ghost use Rattle.rdfs.specs.Facts.{graph};
-ghost use Rattle.rdfs.specs.Words.{laidOut, facts};
-ghost use Rattle.rdfs.specs.Register.{tableRefusal};
+ghost use Rattle.rdfs.specs.Words.{laidOut};
+ghost use Rattle.rdfs.specs.Refusals.{tableRefusal};
+ghost use Rattle.table.specs.Counted.{factsOf};
 ghost use Rattle.consistency.specs.Order.{rulesInOrder, Answers, numberOf};
 
 // What a visit of some rules, one after another, finds.
@@ -32,20 +33,21 @@ pub enum Visited {
 }
 
 // The first rule that a table breaks.
-pub fn first_broken(t: &[Word]) -> Visited
-    requires { ⌜ T (laidOut product 1 (now t)) × (length (now t) ≤ product .most) ⌝ }
-    ensures { λ r. ⌜ Answers (graph (facts product (now (t .entry)))) rulesInOrder r ⌝ }
+pub fn first_broken(table: &[Word]) -> Visited
+    requires layout { ⌜ T (laidOut product 1 (now table)) ⌝ }
+    requires size { ⌜ length (now table) ≤ product .most ⌝ }
+    ensures answer { λ r. ⌜ Answers (graph (factsOf (now (table .entry)))) rulesInOrder r ⌝ }
 {
-    let n = count_facts(t);
-    let words = &t[..n];
-    let mut s = [0u16; SPANS];
-    fill_index(words, &mut s);
-    visit(words, &s)
+    let count = count_facts(table);
+    let words = &table[..count];
+    let mut index = [0u16; SPANS];
+    fill_index(words, &mut index);
+    visit(words, &index)
 }
 
 // The check's answer after a visit of all rules.
 fn answer_of(visited: Visited) -> u8
-    ensures { λ r. ⌜ r ≡ numberOf visited ⌝ }
+    ensures answer { λ r. ⌜ r ≡ numberOf visited ⌝ }
 {
     match visited {
         Visited::AllMet => 0,
@@ -54,13 +56,13 @@ fn answer_of(visited: Visited) -> u8
 }
 
 // The first of refusals 1, 2 and 3 whose condition holds, or 0: the table is laid out and consistent.
-pub fn check(t: &[Word]) -> u8
-    ensures { λ r. ⌜ r ≡ tableRefusal product (now (t .entry)) 0 ⌝ }
+pub fn check(table: &[Word]) -> u8
+    ensures answer { λ r. ⌜ r ≡ tableRefusal product (now (table .entry)) 0 ⌝ }
 {
-    let answer = layout_refusal(t);
+    let answer = layout_refusal(table);
     if answer != 0 {
         return answer;
     }
-    let visited = first_broken(t);
+    let visited = first_broken(table);
     answer_of(visited)
 }

@@ -46,25 +46,25 @@ const ORDER: [Rule; RULES] = [
 ];
 
 // The rule at a place in the order.
-fn rule_at(i: usize) -> Rule
-    requires { ⌜ i < length rulesInOrder ⌝ }
-    ensures { λ r. ⌜ ruleOf r ≡ ruleAt rulesInOrder i ⌝ }
+fn rule_at(place: usize) -> Rule
+    requires place { ⌜ place < length rulesInOrder ⌝ }
+    ensures answer { λ r. ⌜ ruleOf r ≡ ruleAt rulesInOrder place ⌝ }
 {
-    ORDER[i]
+    ORDER[place]
 }
 
 // The first rule that is broken, of all.
-pub fn visit<'a>(t: &'a [Word], s: &'a [u16]) -> Visited
-    requires { ⌜ Indexed (now t) (now s) ⌝ }
-    ensures { λ r. ⌜ Answers (graphOf (now (t .entry))) rulesInOrder r ⌝ }
+pub fn visit<'a>(table: &'a [Word], index: &'a [u16]) -> Visited
+    requires words { ⌜ Indexed (now table) (now index) ⌝ }
+    ensures answer { λ r. ⌜ Answers (graphOf (now (table .entry))) rulesInOrder r ⌝ }
 {
-    let mut i = 0;
-    while i < RULES {
-        let rule = rule_at(i);
-        if !meets(t, s, rule) {
+    let mut at = 0;
+    while at < RULES {
+        let rule = rule_at(at);
+        if !meets(table, index, rule) {
             return Visited::Broken(rule);
         }
-        i += 1;
+        at += 1;
     }
     Visited::AllMet
 }

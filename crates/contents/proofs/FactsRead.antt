@@ -5,15 +5,16 @@ use mathlib.Core.List.{List, [], _∷_, _++_}
 use native.Mathlib.Omega.{arith}
 use lib.Dec.{lit≤}
 use lib.ListN.{length, getD, take, drop}
-use Rattle.rdfs.specs.Numbers.{arity}
+use Rattle.rdfs.specs.Numbers.{kindCount, arity}
 use Rattle.rdfs.specs.Lists.{concatMap}
 use Rattle.rdfs.specs.Facts.{Fact, kind, ids, first, second, third, made}
 use Rattle.rdfs.specs.Words.{word}
-use Rattle.rdfs.proofs.Facts.{made-of}
-use Rattle.rdfs.proofs.Digits.{Below}
+use Rattle.rdfs.proofs.words.FactLaws.{made-of}
+use Rattle.rdfs.proofs.words.Digits.{Below}
 use Rattle.rdfs.proofs.Theorems.{arity-is}
-use Rattle.table.proofs.Parts.{parts-shaped}
-use Rattle.contents.specs.Form.{Form, Proper, factSize, inBytes}
+use Rattle.table.proofs.Arity.{shaped-some, shaped-within}
+use Rattle.table.proofs.PartLaws.{parts-shaped}
+use Rattle.contents.specs.ImageForm.{Form, Proper, factSize, inBytes}
 use Rattle.contents.specs.Reading.{idAt}
 use Rattle.contents.proofs.InBytes.{AllBytes, Under, under-take, numbersFrom, numbers-read, numbers-written, number-bound}
 
@@ -24,7 +25,7 @@ pub record IsKind (k : ℕ) : Type 0 where
   pub some : 1 ≤ arity k
   pub few : arity k ≤ 3
 
-pub is-kind : (k : ℕ) → 1 ≤ k → k ≤ 10 → IsKind k
+pub is-kind : (k : ℕ) → 1 ≤ k → k ≤ kindCount → IsKind k
 is-kind zero h l = absurd (omega arith)
 is-kind (suc zero) h l = record { of-kind = λ a b c. refl; has-ids = λ a b c. refl; some = lit≤ tt; few = lit≤ tt }
 is-kind (suc (suc zero)) h l = record { of-kind = λ a b c. refl; has-ids = λ a b c. refl; some = lit≤ tt; few = lit≤ tt }
@@ -45,8 +46,8 @@ is-kind (suc (suc (suc (suc (suc (suc (suc (suc (suc (suc zero)))))))))) h l =
     record { of-kind = λ a b c. refl; has-ids = λ a b c. refl; some = lit≤ tt; few = lit≤ tt }
 is-kind (suc (suc (suc (suc (suc (suc (suc (suc (suc (suc (suc k))))))))))) h l = absurd (omega arith)
 
-pub fact-kind : (f : Fact) → (1 ≤ kind f) × (kind f ≤ 10)
-fact-kind f = let s = parts-shaped f in (s .some, s .most)
+pub fact-kind : (f : Fact) → (1 ≤ kind f) × (kind f ≤ kindCount)
+fact-kind f = let s = parts-shaped f in (shaped-some s, shaped-within s)
 
 -- The ids that a kind has no use for do not matter.
 pub made-again : {k : ℕ} → IsKind k → (a b c : ℕ) → let l : List ℕ = take (arity k) (a ∷ b ∷ c ∷ []) in
@@ -109,7 +110,7 @@ module _ (F : Form) (proper : Proper F) (bytes : List ℕ) where
       → Below B (made k (idAt F bytes p 0) (idAt F bytes p 1) (idAt F bytes p 2))
   fact-below b B k p h i =
       let id : ℕ → ℕ = idAt F bytes p in
-      let bound : (n : ℕ) → id n < B = λ n. omega (arith, h, number-bound (F .idSize) (proper .id) bytes b (p + n * F .idSize)) in
+      let bound : (n : ℕ) → id n < B = λ n. omega (arith, h, number-bound (F .idSize) bytes b (p + n * F .idSize)) in
       let l : List ℕ = id 0 ∷ id 1 ∷ id 2 ∷ [] in
       let part : Under B (take (arity k) l) = under-take (arity k) l (three (id 0) (id 1) (id 2) (bound 0) (bound 1) (bound 2)) in
       let same : Under B (ids (made k (id 0) (id 1) (id 2))) = subst (Under B) (sym (i .has-ids (id 0) (id 1) (id 2))) part in

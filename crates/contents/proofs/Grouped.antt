@@ -13,12 +13,12 @@ use Rattle.rdfs.specs.Numbers.{Numbers, Sound}
 use Rattle.rdfs.specs.Lists.{_∈_, here, there, Ascending, concatMap}
 use Rattle.rdfs.specs.Facts.{Fact, kind, first, second, third}
 use Rattle.rdfs.specs.Words.{word, fact, isFact}
-use Rattle.rdfs.proofs.Lists.{in-cons, none-in}
-use Rattle.rdfs.proofs.Filters.{filter-none}
-use Rattle.rdfs.proofs.Digits.{Below, digit-bound}
-use Rattle.rdfs.proofs.Allowed.{allowed-below}
-use Rattle.rdfs.proofs.LaidOut.{fact-says, fact-allowed}
-use Rattle.contents.specs.Form.{kindsAfter}
+use Rattle.rdfs.proofs.lists.ListLaws.{in-cons, none-in}
+use Rattle.rdfs.proofs.lists.Filters.{filter-none}
+use Rattle.rdfs.proofs.words.Digits.{Below, digit-bound}
+use Rattle.rdfs.proofs.words.Allowed.{allowed-below}
+use Rattle.rdfs.proofs.words.LaidOut.{fact-says, fact-allowed}
+use Rattle.contents.specs.ImageForm.{kindsAfter}
 use Rattle.contents.specs.Image.{factKind, ofKind}
 
 pub kinds-from : (j n k : ℕ) → k ∈ kindsAfter j n → (j < k) × (k ≤ j + n)

@@ -8,12 +8,12 @@ use native.Mathlib.Decide.{decLt}
 use lib.Dec.{eqb, eqb→eq}
 use lib.ListN.{length, getD, take, drop, take-append-drop}
 use lib.Seq.{drop-cons, drop-drop, take-add, drop-length}
-use Rattle.rdfs.specs.Numbers.{Numbers}
+use Rattle.rdfs.specs.Numbers.{Numbers, kindCount}
 use Rattle.rdfs.specs.Lists.{_∈_, concatMap}
-use Rattle.rdfs.proofs.Tests.{tests-eq}
-use Rattle.rdfs.proofs.Lists.{in-cons, none-in, in-concatMap}
-use Rattle.rdfs.proofs.Filters.{filter-all, filter-none, filter-append}
-use Rattle.contents.specs.Form.{Form, Proper, factSize, entrySize, entryAt, firstBody, kindsAfter, kinds, inBytes}
+use Rattle.rdfs.proofs.lists.Tests.{tests-eq}
+use Rattle.rdfs.proofs.lists.ListLaws.{in-cons, none-in, in-concatMap}
+use Rattle.rdfs.proofs.lists.Filters.{filter-all, filter-none, filter-append}
+use Rattle.contents.specs.ImageForm.{Form, Proper, factSize, entrySize, entryAt, firstBody, kindsAfter, kinds, inBytes}
 use Rattle.contents.specs.Image.{factKind, ofKind, idBytes, bodyOf, bodies, entry, contents, imageOf}
 use Rattle.contents.specs.Reading.{startAt, countAt, wordsIn, wordsOf}
 use Rattle.contents.specs.Contents.{Entry, Chained, Contents}
@@ -53,7 +53,7 @@ module _ (F : Form) (bytes : List ℕ) (c : Contents F bytes) where
       subst (λ n. n + factSize F k * count ≤ length bytes) (sym e) (subst (λ n. startAt F bytes k + factSize F k * n ≤ length
       bytes) (sym d) (body-within k h l))
 
-module _ (N : Numbers) (F : Form) (proper : Proper F) (few : F .entries ≤ 10) (bytes : List ℕ) (b : AllBytes bytes)
+module _ (N : Numbers) (F : Form) (proper : Proper F) (few : F .entries ≤ kindCount) (bytes : List ℕ) (b : AllBytes bytes)
     (room : 256 ^ F .idSize ≤ N .base) where
   kind-of : (k : ℕ) → 1 ≤ k → k ≤ F .entries → IsKind k
   kind-of k h l = is-kind k h (omega (arith, few))

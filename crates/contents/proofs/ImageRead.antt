@@ -10,8 +10,8 @@ use lib.ListN.{length, getD, drop, length-append, length-drop}
 use lib.Seq.{drop-at, drop-drop, getD-drop}
 use Rattle.rdfs.specs.Numbers.{Numbers}
 use Rattle.rdfs.specs.Lists.{_∈_, concatMap}
-use Rattle.rdfs.proofs.Lists.{in-cons, none-in, in-filter}
-use Rattle.contents.specs.Form.{Form, Proper, factSize, entrySize, entryAt, firstBody, kindsAfter, kinds, inBytes}
+use Rattle.rdfs.proofs.lists.ListLaws.{in-cons, none-in, in-filter}
+use Rattle.contents.specs.ImageForm.{Form, Proper, factSize, entrySize, entryAt, firstBody, kindsAfter, kinds, inBytes}
 use Rattle.contents.specs.Image.{factKind, ofKind, bodyOf, bodies, entry, contents, imageOf}
 use Rattle.contents.specs.Reading.{startAt, countAt}
 use Rattle.contents.specs.Contents.{Entry, Chained, Contents}

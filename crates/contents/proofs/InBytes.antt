@@ -8,7 +8,7 @@ use native.Mathlib.Nat.{mod-add-div, pow-succ', pow-le-pow-right}
 use lib.ListN.{length, getD, take, drop, length-take, length-drop, List·getD-eq-default}
 use lib.Seq.{take-at, drop-at, drop-drop, take-add, getD-take, getD-drop, length-take-le}
 use Rattle.rdfs.specs.Lists.{concatMap}
-use Rattle.contents.specs.Form.{inBytes, fromBytes}
+use Rattle.contents.specs.ImageForm.{inBytes, fromBytes}
 use Rattle.contents.specs.Reading.{numberAt}
 
 pub inBytes-length : (n x : ℕ) → length (inBytes n x) ≡ n
@@ -56,6 +56,14 @@ fromBytes-back (suc (suc n)) (b ∷ l) e h =
     let high : (b + 256 * x) / 256 ≡ x = omega (arith, h 0) in
     rw (low, high) (ap (λ m. b ∷ m) (fromBytes-back (suc n) l (omega arith) (λ i. h (suc i))))
 
+-- A number of s bytes.
+pub number-bound : (s : ℕ) (bytes : List ℕ) → AllBytes bytes → (q : ℕ) → numberAt s bytes q < 256 ^ s
+number-bound s bytes b q =
+    let part : List ℕ = take s (drop q bytes) in
+    let short : length part ≤ s = omega (arith, length-take s (drop q bytes)) in
+    let grows : 256 ^ length part ≤ 256 ^ s = pow-le-pow-right {n = 256} (omega arith) short in
+    omega (arith, grows, fromBytes-bound part (under-take s (drop q bytes) (under-drop q bytes b)))
+
 -- n numbers of s bytes each from place q on.
 abbrev pub numbersFrom : ℕ → List ℕ → ℕ → ℕ → List ℕ
 numbersFrom s bytes q zero = []
@@ -86,10 +94,3 @@ module _ (s : ℕ) (h : 0 < s) (bytes : List ℕ) where
       ap (λ a. a ++ concatMap (inBytes s) (numbersFrom s bytes (q + s) n)) first
       ∙ (ap (λ a. part ++ a) (numbers-written b n (q + s) (omega arith) ∙ ap (take (n * s)) (sym (drop-drop s q bytes)))
       ∙ (sym (take-add s (n * s) (drop q bytes)) ∙ ap (λ k. take k (drop q bytes)) (sym more)))
-
-  pub number-bound : AllBytes bytes → (q : ℕ) → numberAt s bytes q < 256 ^ s
-  number-bound b q =
-      let part : List ℕ = take s (drop q bytes) in
-      let short : length part ≤ s = omega (arith, length-take s (drop q bytes)) in
-      let grows : 256 ^ length part ≤ 256 ^ s = pow-le-pow-right {n = 256} (omega arith) short in
-      omega (arith, grows, fromBytes-bound part (under-take s (drop q bytes) (under-drop q bytes b)))

@@ -1,10 +1,12 @@
--- Laws on the definitions: InBytes (numbers in bytes), FactsRead and WordsRead (a body, both ways), Grouped (words kind by kind),
--- ImageRead (an image that was written), ImageAgain (bytes whose contents are right), RoundTrip, Product (the same at the
--- product's numbers). Cases: computed. For functions: Places (number_at, word_at, fact_size, rise_of), Deciding (has_contents),
--- Linking (is_chained, body), Climbing (rise_of, is_rising), HasBody (has_body, body). Tied: the contract of `body` in the source
--- is its promise.
-pub mod Cases
+-- Laws on the definitions: InBytes (numbers in bytes), FormBounds (how large a form's numbers are), FactsRead and WordsRead (a
+-- body, both ways), Grouped (words kind by kind), ImageRead (an image that was written), ImageAgain (bytes whose contents are
+-- right), RoundTrip, Product (the same at the product's numbers). ImageCases: computed. For functions: NumberRead (number_at),
+-- ImagePlaces (word_at, rise_of), Deciding (has_contents), Linking (is_chained, body), Climbing (rise_of, is_rising), HasBody
+-- (has_body, body). BodyTied: the contract of `body` in the source is its promise.
+pub mod ImageCases
 pub mod InBytes
+pub mod FormBounds
+pub mod NumberRead
 pub mod FactsRead
 pub mod WordsRead
 pub mod Grouped
@@ -12,9 +14,9 @@ pub mod ImageRead
 pub mod ImageAgain
 pub mod RoundTrip
 pub mod Product
-pub mod Places
+pub mod ImagePlaces
 pub mod Deciding
 pub mod Linking
 pub mod Climbing
 pub mod HasBody
-mod Tied
+mod BodyTied

@@ -9,20 +9,20 @@ use lib.Dec.{T, eqb, eqb→eq, T-not}
 use lib.ListN.{length, take, drop}
 use lib.Seq.{take-at}
 use borrow.Author.Tests.{not-false}
-use Rattle.rdfs.specs.Numbers.{Numbers, Sound}
+use Rattle.rdfs.specs.Numbers.{Numbers, Sound, kindCount}
 use Rattle.rdfs.specs.Lists.{_∈_, here, there, Ascending, concatMap, member}
 use Rattle.rdfs.specs.Facts.{Fact, made}
 use Rattle.rdfs.specs.Words.{isFact, laidOut, filled, fact}
 use Rattle.rdfs.specs.Orders.{sameBytes}
-use Rattle.rdfs.proofs.Tests.{Tests, and-both, both-and, differs}
-use Rattle.rdfs.proofs.Lists.{in-cons, none-in, in-filter, in-concatMap}
-use Rattle.rdfs.proofs.Facts.{in-member}
-use Rattle.rdfs.proofs.Filters.{filter-all}
-use Rattle.rdfs.proofs.Digits.{word-some}
-use Rattle.rdfs.proofs.Perms.{bytes-eq, bytes-refl}
-use Rattle.rdfs.proofs.LaidOut.{laid-is-fact, laid-ascending, shape-laid}
-use Rattle.table.proofs.Answers.{is-true, is-false}
-use Rattle.contents.specs.Form.{Form, Proper, factSize, kinds}
+use Rattle.rdfs.proofs.lists.Tests.{Tests, and-both, both-and, differs}
+use Rattle.rdfs.proofs.lists.ListLaws.{in-cons, none-in, in-filter, in-concatMap}
+use Rattle.rdfs.proofs.words.FactLaws.{in-member}
+use Rattle.rdfs.proofs.lists.Filters.{filter-all}
+use Rattle.rdfs.proofs.words.Digits.{word-some}
+use Rattle.rdfs.proofs.register.Perms.{bytes-eq, bytes-refl}
+use Rattle.rdfs.proofs.words.LaidOut.{laid-is-fact, laid-ascending, shape-laid}
+use Rattle.table.proofs.TestAnswers.{is-true, is-false}
+use Rattle.contents.specs.ImageForm.{Form, Proper, factSize, kinds}
 use Rattle.contents.specs.Image.{factKind, ofKind, bodyOf, imageOf}
 use Rattle.contents.specs.Reading.{Facts, startAt, countAt, idAt, wordsFrom, wordsIn, wordsOf}
 use Rattle.contents.specs.Reading.{malformed, bodiless, bodyStart, bodySize}
@@ -34,58 +34,59 @@ use Rattle.contents.proofs.Grouped.{grouped}
 use Rattle.contents.proofs.ImageRead.{Given, bodyOf-length, image-contents, image-given}
 use Rattle.contents.proofs.ImageAgain.{image-again}
 
-module _ (N : Numbers) (F : Form) (s : Sound N) (proper : Proper F) (many : 10 ≤ F .entries) (l : List ℕ) (h : Facts N l) where
-  facts-in : (w : ℕ) → w ∈ l → T (isFact N w)
-  facts-in w i = laid-is-fact N l (h .laid) w (subst (λ m. w ∈ m) (sym (h .full)) i)
+module _ (N : Numbers) (F : Form) (s : Sound N) (proper : Proper F) (many : kindCount ≤ F .entries) (l : List ℕ) (h : Facts N l)
+  where
+    facts-in : (w : ℕ) → w ∈ l → T (isFact N w)
+    facts-in w i = laid-is-fact N l (h .laid) w (subst (λ m. w ∈ m) (sym (h .full)) i)
 
-  rising : Ascending l
-  rising = subst Ascending (h .full) (laid-ascending N l (h .laid))
+    rising : Ascending l
+    rising = subst Ascending (h .full) (laid-ascending N l (h .laid))
 
-  alike : (k : ℕ) → Alike N k (ofKind N k l)
-  alike k w i = let r = in-filter (λ x. eqb (factKind N x) k) l i in (facts-in w (r .0), eqb→eq (factKind N w) k (r .1))
+    alike : (k : ℕ) → Alike N k (ofKind N k l)
+    alike k w i = let r = in-filter (λ x. eqb (factKind N x) k) l i in (facts-in w (r .0), eqb→eq (factKind N w) k (r .1))
 
-  abbrev image : List ℕ
-  image = imageOf N F l
+    abbrev image : List ℕ
+    image = imageOf N F l
 
-  -- The entry of a kind gives the words of that kind.
-  kind-again : (k : ℕ) → k ∈ kinds F → wordsIn N F image k ≡ ofKind N k l
-  kind-again k i =
-      let g : Given N F image l k = image-given N F proper l k i in
-      ap (λ n. wordsFrom N F image k n (startAt F image k)) (g .count) ∙ words-read N F proper image k (ofKind N k l) (g .rest)
-      (startAt F image k) (alike k) (g .body)
+    -- The entry of a kind gives the words of that kind.
+    kind-again : (k : ℕ) → k ∈ kinds F → wordsIn N F image k ≡ ofKind N k l
+    kind-again k i =
+        let g : Given N F image l k = image-given N F proper l k i in
+        ap (λ n. wordsFrom N F image k n (startAt F image k)) (g .count) ∙ words-read N F proper image k (ofKind N k l) (g .rest)
+        (startAt F image k) (alike k) (g .body)
 
-  pub kinds-all : concatMap (λ k. ofKind N k l) (kinds F) ≡ l
-  kinds-all = grouped N s (F .entries) l rising (λ w i. let k = fact-kind (fact (N .base) w) in
-      (facts-in w i, omega (arith, k .1, many), k .0))
+    pub kinds-all : concatMap (λ k. ofKind N k l) (kinds F) ≡ l
+    kinds-all = grouped N s (F .entries) l rising (λ w i. let k = fact-kind (fact (N .base) w) in
+        (facts-in w i, omega (arith, k .1, many), k .0))
 
-  pub words-again : wordsOf N F image ≡ l
-  unfolding wordsOf
-  words-again = each (kinds F) kind-again ∙ kinds-all
-    where
-      each : (ks : List ℕ) → ((k : ℕ) → k ∈ ks → wordsIn N F image k ≡ ofKind N k l) → concatMap (wordsIn N F image) ks
-          ≡ concatMap (λ k. ofKind N k l) ks
-      each [] f = refl
-      each (k ∷ ks) f = ap (λ a. a ++ concatMap (wordsIn N F image) ks) (f k (here refl))
-          ∙ ap (λ a. ofKind N k l ++ a) (each ks (λ x i. f x (there i)))
+    pub words-again : wordsOf N F image ≡ l
+    unfolding wordsOf
+    words-again = each (kinds F) kind-again ∙ kinds-all
+      where
+        each : (ks : List ℕ) → ((k : ℕ) → k ∈ ks → wordsIn N F image k ≡ ofKind N k l) → concatMap (wordsIn N F image) ks
+            ≡ concatMap (λ k. ofKind N k l) ks
+        each [] f = refl
+        each (k ∷ ks) f = ap (λ a. a ++ concatMap (wordsIn N F image) ks) (f k (here refl))
+            ∙ ap (λ a. ofKind N k l ++ a) (each ks (λ x i. f x (there i)))
 
-  pub written-well : malformed N F image ≡ false
-  unfolding malformed
-  written-well =
-      ap (λ m. not (sameBytes image (imageOf N F m) && laidOut N 1 m)) words-again
-      ∙ ap not (is-true {b = sameBytes image image && laidOut N 1 l} (both-and (sameBytes image image) (laidOut N 1 l)
-      (bytes-refl image) (h .laid)))
+    pub written-well : malformed N F image ≡ false
+    unfolding malformed
+    written-well =
+        ap (λ m. not (sameBytes image (imageOf N F m) && laidOut N 1 m)) words-again
+        ∙ ap not (is-true {b = sameBytes image image && laidOut N 1 l} (both-and (sameBytes image image) (laidOut N 1 l)
+        (bytes-refl image) (h .laid)))
 
-  -- The body of a kind in the image is the ids of that kind's facts, in order.
-  pub body-ids : (k : ℕ) → k ∈ kinds F → take (bodySize N F image k) (drop (bodyStart N F image k) image) ≡ bodyOf N F l k
-  body-ids k i =
-      let g : Given N F image l k = image-given N F proper l k i in
-      let here : bodiless N F image k ≡ false = ap (λ m. m || not (member (kinds F) k)) written-well
-      ∙ ap not (is-true {b = member (kinds F) k} (in-member (kinds F) k i)) in
-      let size : factSize F k * countAt F image k ≡ factSize F k * length (ofKind N k l) =
-      ap (λ n. factSize F k * n) (g .count) in
-      ap (λ m. take (cond m 0 (factSize F k * countAt F image k)) (drop (cond m (length image) (startAt F image k)) image)) here
-      ∙ (ap (λ n. take n (drop (startAt F image k) image)) size ∙ (ap (take (factSize F k * length (ofKind N k l))) (g .body)
-      ∙ take-at (bodyOf N F l k) (g .rest) (factSize F k * length (ofKind N k l)) (bodyOf-length N F l k)))
+    -- The body of a kind in the image is the ids of that kind's facts, in order.
+    pub body-ids : (k : ℕ) → k ∈ kinds F → take (bodySize N F image k) (drop (bodyStart N F image k) image) ≡ bodyOf N F l k
+    body-ids k i =
+        let g : Given N F image l k = image-given N F proper l k i in
+        let here : bodiless N F image k ≡ false = ap (λ m. m || not (member (kinds F) k)) written-well
+        ∙ ap not (is-true {b = member (kinds F) k} (in-member (kinds F) k i)) in
+        let size : factSize F k * countAt F image k ≡ factSize F k * length (ofKind N k l) =
+        ap (λ n. factSize F k * n) (g .count) in
+        ap (λ m. take (cond m 0 (factSize F k * countAt F image k)) (drop (cond m (length image) (startAt F image k)) image)) here
+        ∙ (ap (λ n. take n (drop (startAt F image k) image)) size ∙ (ap (take (factSize F k * length (ofKind N k l))) (g .body)
+        ∙ take-at (bodyOf N F l k) (g .rest) (factSize F k * length (ofKind N k l)) (bodyOf-length N F l k)))
 
 -- Bytes that are well formed are the image of the words that they give, which are laid out.
 pub read-well : (N : Numbers) (F : Form) (bytes : List ℕ) → malformed N F bytes ≡ false
@@ -107,7 +108,7 @@ well-read N F bytes e t =
     (laidOut N 1 l) same t))
 
 -- So they are well formed exactly if the contents are right and the words laid out.
-module _ (N : Numbers) (F : Form) (proper : Proper F) (few : F .entries ≤ 10) (bytes : List ℕ) (b : AllBytes bytes)
+module _ (N : Numbers) (F : Form) (proper : Proper F) (few : F .entries ≤ kindCount) (bytes : List ℕ) (b : AllBytes bytes)
     (room : 256 ^ F .idSize ≤ N .base) where
   pub tests-well : Tests (not (malformed N F bytes)) (Contents F bytes × T (laidOut N 1 (wordsOf N F bytes)))
   tests-well = record {

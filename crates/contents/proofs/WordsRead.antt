@@ -11,10 +11,10 @@ use Rattle.rdfs.specs.Numbers.{Numbers}
 use Rattle.rdfs.specs.Lists.{_∈_, here, there, concatMap}
 use Rattle.rdfs.specs.Facts.{Fact, kind, ids, made}
 use Rattle.rdfs.specs.Words.{word, fact, isFact}
-use Rattle.rdfs.proofs.Lists.{in-cons, none-in}
-use Rattle.rdfs.proofs.Digits.{fact-word}
-use Rattle.rdfs.proofs.LaidOut.{fact-says}
-use Rattle.contents.specs.Form.{Form, Proper, factSize, inBytes}
+use Rattle.rdfs.proofs.lists.ListLaws.{in-cons, none-in}
+use Rattle.rdfs.proofs.words.Digits.{fact-word}
+use Rattle.rdfs.proofs.words.LaidOut.{fact-says}
+use Rattle.contents.specs.ImageForm.{Form, Proper, factSize, inBytes}
 use Rattle.contents.specs.Image.{factKind, idBytes}
 use Rattle.contents.specs.Reading.{idAt, wordAt, wordsFrom}
 use Rattle.contents.proofs.InBytes.{AllBytes, inBytes-length}

@@ -3,7 +3,7 @@ use Prim.Native.Nat.{ℕ, _+_, _*_}
 use mathlib.Core.Path.{_≡_}
 use mathlib.Core.List.{List, [], _∷_}
 use lib.ListN.{length, getD}
-use Rattle.contents.specs.Form.{Form, factSize, entryAt, firstBody, kinds}
+use Rattle.contents.specs.ImageForm.{Form, factSize, entryAt, firstBody, kinds}
 use Rattle.contents.specs.Reading.{startAt, countAt}
 
 -- The entry of kind k is right if its body starts at `start`.

@@ -7,7 +7,7 @@ use Rattle.rdfs.specs.Numbers.{Numbers}
 use Rattle.rdfs.specs.Lists.{filter, concatMap}
 use Rattle.rdfs.specs.Facts.{kind, ids}
 use Rattle.rdfs.specs.Words.{fact}
-use Rattle.contents.specs.Form.{Form, factSize, firstBody, kinds, inBytes}
+use Rattle.contents.specs.ImageForm.{Form, factSize, firstBody, kinds, inBytes}
 
 -- The kind of a word's fact, and the words of kind k.
 abbrev pub factKind : Numbers → ℕ → ℕ

@@ -1,6 +1,8 @@
-pub mod Form
+pub mod ImageForm
+pub mod Legible
 pub mod Image
 pub mod Reading
 pub mod Contents
-pub mod Rising
-pub mod Parts
+pub mod WithinBytes
+pub mod BodyRise
+pub mod BodyPromise

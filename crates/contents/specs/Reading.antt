@@ -10,7 +10,7 @@ use Rattle.rdfs.specs.Lists.{concatMap, member}
 use Rattle.rdfs.specs.Facts.{made}
 use Rattle.rdfs.specs.Words.{word, laidOut, filled}
 use Rattle.rdfs.specs.Orders.{sameBytes}
-use Rattle.contents.specs.Form.{Form, factSize, entryAt, kinds, fromBytes}
+use Rattle.contents.specs.ImageForm.{Form, factSize, entryAt, kinds, fromBytes}
 use Rattle.contents.specs.Image.{imageOf}
 
 -- The words are facts, ascending, none twice, with no zeros after them.
@@ -29,18 +29,20 @@ startAt F bytes k = numberAt (F .fieldSize) bytes (entryAt F k + 2)
 abbrev pub countAt : Form → List ℕ → ℕ → ℕ
 countAt F bytes k = numberAt (F .fieldSize) bytes (entryAt F k + 2 + F .fieldSize)
 
--- Id i, from 0 on, of the fact whose ids stand from place p on.
+-- Id i, from 0 on, of the fact whose ids stand from a place on.
 abbrev pub idAt : Form → List ℕ → ℕ → ℕ → ℕ
-idAt F bytes p i = numberAt (F .idSize) bytes (p + i * F .idSize)
+idAt F bytes place i = numberAt (F .idSize) bytes (place + i * F .idSize)
 
--- The word of the fact of kind k whose ids stand from place p on.
+-- The word of the fact of kind k whose ids stand from a place on.
 abbrev pub wordAt : Numbers → Form → List ℕ → ℕ → ℕ → ℕ
-wordAt N F bytes k p = word (N .base) (made k (idAt F bytes p 0) (idAt F bytes p 1) (idAt F bytes p 2))
+wordAt N F bytes k place =
+    word (N .base) (made k (idAt F bytes place 0) (idAt F bytes place 1) (idAt F bytes place 2))
 
--- The words of n facts of kind k from place p on.
+-- The words of n facts of kind k from a place on.
 abbrev pub wordsFrom : Numbers → Form → List ℕ → ℕ → ℕ → ℕ → List ℕ
-wordsFrom N F bytes k zero p = []
-wordsFrom N F bytes k (suc n) p = wordAt N F bytes k p ∷ wordsFrom N F bytes k n (p + factSize F k)
+wordsFrom N F bytes k zero place = []
+wordsFrom N F bytes k (suc n) place =
+    wordAt N F bytes k place ∷ wordsFrom N F bytes k n (place + factSize F k)
 
 -- The words of kind k, and of all kinds in order.
 abbrev pub wordsIn : Numbers → Form → List ℕ → ℕ → List ℕ

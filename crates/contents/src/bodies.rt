@@ -3,19 +3,18 @@ ghost use mathlib.Core.Path.{_≡_};
 ghost use Prim.Native.Nat.{ℕ, _+_, _*_, _≤_, _<_};
 ghost use mathlib.Core.Bool.{not};
 ghost use mathlib.Core.List.{List};
-ghost use lib.ListN.{length, getD};
+ghost use lib.ListN.{length};
 ghost use Rattle.rdfs.specs.Numbers.{product};
 ghost use Rattle.rdfs.specs.Words.{laidOut};
-ghost use Rattle.contents.specs.Form.{form, byteValues, factSize};
-ghost use Rattle.contents.specs.Reading.{wordAt, wordsFrom, wordsOf, malformed, bodiless};
-ghost use Rattle.contents.specs.Contents.{Contents};
-ghost use Rattle.contents.specs.Rising.{RisesTo};
-use crate::entries::byte_at;
+ghost use Rattle.contents.specs.Legible.{formOf, Legible};
+ghost use Rattle.contents.specs.Reading.{numberAt, wordAt, wordsFrom, wordsOf, malformed, bodiless};
+ghost use Rattle.contents.specs.WithinBytes.{HasContents, HasFacts};
+ghost use Rattle.contents.specs.BodyRise.{RisesTo};
 use crate::entries::count_at;
 use crate::entries::has_contents;
+use crate::entries::number_at;
 use crate::entries::start_at;
-use crate::form::ENTRIES;
-use crate::form::ID_SIZE;
+use crate::form::Form;
 use crate::form::fact_size;
 use table::Word;
 use table::arity_of;
@@ -32,100 +31,104 @@ pub enum Rise {
 }
 
 // An id in a body.
-fn id_at(image: &[u8], p: usize) -> Word
-    requires { ⌜ p < length (now image) ⌝ }
-    ensures { λ r. ⌜ (r ≡ getD (now (image .entry)) p 0) × (r < byteValues) ⌝ }
+fn id_at(form: Form, image: &[u8], place: usize) -> Word
+    requires form { ⌜ Legible (formOf form) ⌝ }
+    requires within { ⌜ place + formOf form .idSize ≤ length (now image) ⌝ }
+    ensures answer { λ r. ⌜ r ≡ numberAt (formOf form .idSize) (now (image .entry)) place ⌝ }
+    ensures bound { λ r. ⌜ r < product .base ⌝ }
 {
-    let id = byte_at(image, p);
+    let id = number_at(image, place, form.id_size);
     id as Word
 }
 
-// The word of the fact of kind k whose ids stand from place p on.
-pub fn word_at(image: &[u8], k: Word, p: usize) -> Word
-    requires { ⌜ (1 ≤ k) × (k ≤ form .entries) × (p + factSize form k ≤ length (now image)) ⌝ }
-    ensures { λ r. ⌜ r ≡ wordAt product form (now (image .entry)) k p ⌝ }
+// The word of the fact of kind k whose ids stand from a place on.
+pub fn word_at(form: Form, image: &[u8], k: Word, place: usize) -> Word
+    requires fact { ⌜ HasFacts (formOf form) (now image) k place 1 ⌝ }
+    ensures answer { λ r. ⌜ r ≡ wordAt product (formOf form) (now (image .entry)) k place ⌝ }
 {
-    let n = arity_of(k);
-    let a = id_at(image, p);
-    if n == 1 {
+    let ids = arity_of(k);
+    let a = id_at(form, image, place);
+    if ids == 1 {
         return word_of(k, a, 0, 0);
     }
-    let b = id_at(image, p + ID_SIZE);
-    if n == 2 {
+    let b = id_at(form, image, place + form.id_size);
+    if ids == 2 {
         return word_of(k, a, b, 0);
     }
-    let c = id_at(image, p + 2 * ID_SIZE);
+    let c = id_at(form, image, place + 2 * form.id_size);
     word_of(k, a, b, c)
 }
 
 // Whether the count facts of kind k from place `from` on are facts, each above the one before, the first
 // above `last`.
-fn rise_of(image: &[u8], k: Word, from: usize, count: usize, last: Word) -> Rise
-    requires { ⌜ (1 ≤ k) × (k ≤ form .entries) × (from + factSize form k * count ≤ length (now image)) ⌝ }
-    ensures { λ r. ⌜ ((rest : List ℕ) → RisesTo last (wordsFrom product form (now (image .entry)) k count
-        from) rest r) ⌝ }
+fn rise_of(form: Form, image: &[u8], k: Word, from: usize, count: usize, last: Word) -> Rise
+    requires facts { ⌜ HasFacts (formOf form) (now image) k from count ⌝ }
+    ensures answer { λ r. ⌜ ((rest : List ℕ) → RisesTo last (wordsFrom product (formOf form)
+        (now (image .entry)) k count from) rest r) ⌝ }
 {
-    let size = fact_size(k);
-    let mut i = 0;
-    let mut p = from;
+    let size = fact_size(form, k);
+    let mut passed = 0;
+    let mut place = from;
     let mut top = last;
-    while i < count {
-        let w = word_at(image, k, p);
-        if w <= top {
+    while passed < count {
+        let word = word_at(form, image, k, place);
+        if word <= top {
             return Rise::Broken;
         }
-        let good = is_fact(w);
+        let good = is_fact(word);
         if !good {
             return Rise::Broken;
         }
-        top = w;
-        p += size;
-        i += 1;
+        top = word;
+        place += size;
+        passed += 1;
     }
     Rise::To(top)
 }
 
 // Whether the words of the bodies are facts, ascending, none twice.
-pub fn is_rising(image: &[u8]) -> bool
-    requires { ⌜ Contents form (now image) ⌝ }
-    ensures { λ r. ⌜ r ≡ laidOut product 1 (wordsOf product form (now (image .entry))) ⌝ }
+pub fn is_rising(form: Form, image: &[u8]) -> bool
+    requires contents { ⌜ HasContents (formOf form) (now image) ⌝ }
+    ensures answer { λ r. ⌜ r ≡ laidOut product 1 (wordsOf product (formOf form) (now (image .entry))) ⌝ }
 {
     let mut done: Word = 0;
     let mut last: Word = 0;
-    while done < ENTRIES {
+    while done < form.entries {
         let k = done + 1;
-        let from = start_at(image, k);
-        let count = count_at(image, k);
-        let rise = rise_of(image, k, from, count, last);
-        let Rise::To(w) = rise else {
+        let from = start_at(form, image, k);
+        let count = count_at(form, image, k);
+        let rise = rise_of(form, image, k, from, count, last);
+        let Rise::To(word) = rise else {
             return false;
         };
-        last = w;
+        last = word;
         done = k;
     }
     true
 }
 
 // Whether the bytes are an image.
-pub fn is_well_formed(image: &[u8]) -> bool
-    ensures { λ r. ⌜ r ≡ not (malformed product form (now (image .entry))) ⌝ }
+pub fn is_well_formed(form: Form, image: &[u8]) -> bool
+    requires form { ⌜ Legible (formOf form) ⌝ }
+    ensures answer { λ r. ⌜ r ≡ not (malformed product (formOf form) (now (image .entry))) ⌝ }
 {
-    let right = has_contents(image);
+    let right = has_contents(form, image);
     if right {
-        return is_rising(image);
+        return is_rising(form, image);
     }
     false
 }
 
-// Whether the bytes are an image and k is a kind.
-pub fn has_body(image: &[u8], k: Word) -> bool
-    ensures { λ r. ⌜ r ≡ not (bodiless product form (now (image .entry)) k) ⌝ }
+// Whether the bytes are an image and k is a kind of its form.
+pub fn has_body(form: Form, image: &[u8], k: Word) -> bool
+    requires form { ⌜ Legible (formOf form) ⌝ }
+    ensures answer { λ r. ⌜ r ≡ not (bodiless product (formOf form) (now (image .entry)) k) ⌝ }
 {
     if k == 0 {
         return false;
     }
-    if ENTRIES < k {
+    if form.entries < k {
         return false;
     }
-    is_well_formed(image)
+    is_well_formed(form, image)
 }

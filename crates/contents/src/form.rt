@@ -1,79 +1,92 @@
-// The numbers of an image's form, and where its entries stand.
+// The form of an image: its numbers, and where its entries stand.
 ghost use mathlib.Core.Path.{_≡_};
-ghost use Prim.Native.Nat.{_≤_};
-ghost use Rattle.contents.specs.Form.{form, factSize, largestFact, entrySize, entryAt, firstBody};
+ghost use Prim.Native.Nat.{_+_, _*_, _≤_};
+ghost use Rattle.rdfs.specs.Numbers.{product};
+ghost use Rattle.contents.specs.ImageForm.{form, factSize, largestFact, entrySize, entryAt, firstBody};
+ghost use Rattle.contents.specs.Legible.{formOf, factBytes, Legible};
+use table::KINDS;
 use table::MOST;
 use table::Word;
 use table::arity_of;
 
-// The edition.
-pub const EDITION: usize = 1;
-// How many entries the contents have: one for each kind.
-pub const ENTRIES: Word = 10;
+// The numbers of a form.
+pub struct Form {
+    // The edition.
+    pub edition: usize,
+    // How many entries the contents have, one for each kind from 1 on.
+    pub entries: Word,
+    // The bytes of an id.
+    pub id_size: usize,
+    // The bytes of a start, and of a count.
+    pub field_size: usize,
+}
+
+// The product's form.
+pub const FORM: Form = Form {
+    edition: 1,
+    entries: KINDS,
+    id_size: 1,
+    field_size: 2,
+};
 // The values of a byte.
 pub const BYTE: usize = 256;
 // The bytes before the entries: the edition and the number of entries.
-pub const HEADER: usize = 2;
-// The bytes of an id, and of a start or a count.
-pub const ID_SIZE: usize = 1;
+const HEADER: usize = 2;
+// The bytes of an entry before its fields: the kind, and the bytes per fact.
+pub const BEFORE_FIELDS: usize = 2;
 
-pub const FIELD_SIZE: usize = 2;
-// The bytes of an entry before its start and count: the kind, and the bytes per fact.
-pub const FIELDS: usize = 2;
-// The bytes of an entry, and the place of the first body.
-pub const ENTRY_SIZE: usize = 6;
-
+// In the product's form: the place of the first body, the most bytes of a fact, and the most of an image.
 pub const FIRST_BODY: usize = 62;
-// The most bytes of a fact in a body.
-pub const LARGEST_FACT: usize = 3;
-// No image of a table is longer.
+
+const LARGEST_FACT: usize = 3;
+
 pub const LONGEST: usize = FIRST_BODY + LARGEST_FACT * MOST;
 
-// The numbers that the definitions take as parameters, and those that follow from them.
-pub struct Sizes {
-    pub edition: usize,
-    pub entries: Word,
-    pub id: usize,
-    pub field: usize,
-    pub entry: usize,
-    pub first: usize,
-    pub fact: usize,
+// The constants are the definitions' numbers.
+pub fn product_form() -> Form
+    ensures answer { λ r. ⌜ formOf r ≡ form ⌝ }
+{
+    FORM
 }
 
-// The constants are the definitions' numbers.
-pub fn numbers() -> Sizes
-    ensures { λ r. ⌜ (record {
-      edition = r .edition;
-      entries = r .entries;
-      idSize = r .id;
-      fieldSize = r .field;
-    } ≡ form) × (r .entry ≡ entrySize form) × (r .first ≡ firstBody form)
-        × (r .fact ≡ largestFact form) ⌝ }
+pub fn longest_image() -> usize
+    ensures answer { λ r. ⌜ r ≡ firstBody form + largestFact form * product .most ⌝ }
 {
-    Sizes {
-        edition: EDITION,
-        entries: ENTRIES,
-        id: ID_SIZE,
-        field: FIELD_SIZE,
-        entry: ENTRY_SIZE,
-        first: FIRST_BODY,
-        fact: LARGEST_FACT,
-    }
+    LONGEST
 }
 
 // The bytes of a fact of kind k.
-pub fn fact_size(k: Word) -> usize
-    ensures { λ r. ⌜ (r ≡ factSize form k) × (r ≤ largestFact form) ⌝ }
+pub fn fact_size(form: Form, k: Word) -> usize
+    requires form { ⌜ Legible (formOf form) ⌝ }
+    ensures answer { λ r. ⌜ r ≡ factSize (formOf form) k ⌝ }
+    ensures bound { λ r. ⌜ r ≤ factBytes ⌝ }
 {
-    let n = arity_of(k) as usize;
-    n * ID_SIZE
+    let ids = arity_of(k) as usize;
+    ids * form.id_size
+}
+
+// The bytes of an entry.
+fn entry_size(form: Form) -> usize
+    requires form { ⌜ Legible (formOf form) ⌝ }
+    ensures answer { λ r. ⌜ r ≡ entrySize (formOf form) ⌝ }
+{
+    BEFORE_FIELDS + form.field_size + form.field_size
 }
 
 // Where the entry of kind k stands.
-pub fn entry_at(k: Word) -> usize
-    requires { ⌜ (1 ≤ k) × (k ≤ form .entries) ⌝ }
-    ensures { λ r. ⌜ r ≡ entryAt form k ⌝ }
+pub fn entry_at(form: Form, k: Word) -> usize
+    requires form { ⌜ Legible (formOf form) ⌝ }
+    requires kind { ⌜ (1 ≤ k) × (k ≤ formOf form .entries) ⌝ }
+    ensures answer { λ r. ⌜ r ≡ entryAt (formOf form) k ⌝ }
 {
     let before = (k - 1) as usize;
-    HEADER + before * ENTRY_SIZE
+    HEADER + before * entry_size(form)
+}
+
+// Where the first body stands.
+pub fn first_body(form: Form) -> usize
+    requires form { ⌜ Legible (formOf form) ⌝ }
+    ensures answer { λ r. ⌜ r ≡ firstBody (formOf form) ⌝ }
+{
+    HEADER + form.entries as usize * entry_size(form)
 }

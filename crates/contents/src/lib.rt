@@ -2,9 +2,10 @@
 // entries and bodies give, and a kind's body as a part of them.
 //
 // The public call is `body`, which crate `image` passes on. It has no `requires`: it says, for all bytes and
-// all numbers, where its part lies and what it holds. The rest serves crates `writing`, `reading` and
-// `image`, and has a `requires` where it reads an entry or a body. The crate assumes nothing.
-ghost use Rattle.contents.specs.Parts.{BodyPromise};
+// all numbers, where its part lies and what it holds, in the product's form. The rest serves crates
+// `writing`, `reading` and `image`: it takes the form as an argument, and has a `requires` for it and where
+// it reads an entry or a body. The crate assumes nothing.
+ghost use Rattle.contents.specs.BodyPromise.{BodyPromise};
 
 mod bodies;
 mod entries;
@@ -16,32 +17,31 @@ pub use bodies::word_at;
 pub use entries::count_at;
 pub use entries::has_contents;
 pub use entries::start_at;
+pub use form::BEFORE_FIELDS;
 pub use form::BYTE;
-pub use form::EDITION;
-pub use form::ENTRIES;
-pub use form::FIELD_SIZE;
-pub use form::FIELDS;
 pub use form::FIRST_BODY;
-pub use form::ID_SIZE;
+pub use form::FORM;
+pub use form::Form;
 pub use form::LONGEST;
 pub use form::entry_at;
 pub use form::fact_size;
+pub use form::first_body;
 use table::Word;
 
 // The body of a kind, as a part of the image. If the image is malformed or the number is no kind, the empty
 // part at the image's end. An empty body of a good image is the empty part at its own start.
 pub fn body(image: &[u8], kind: u8) -> &[u8]
-    ensures { λ r. ⌜ BodyPromise (image .entry) kind r ⌝ }
+    ensures promise { λ r. ⌜ BodyPromise (image .entry) kind r ⌝ }
 {
     let k = kind as Word;
-    let there = has_body(image, k);
+    let there = has_body(FORM, image, k);
     let end = image.len();
     if !there {
         return &image[end..end];
     }
-    let from = start_at(image, k);
-    let size = fact_size(k);
-    let count = count_at(image, k);
+    let from = start_at(FORM, image, k);
+    let size = fact_size(FORM, k);
+    let count = count_at(FORM, image, k);
     let to = from + size * count;
     &image[from..to]
 }

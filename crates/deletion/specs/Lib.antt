@@ -1,3 +1,4 @@
-pub mod Asked
-pub mod Gone
-pub mod Kept
+pub mod Deleting
+pub mod FlagsFor
+pub mod FlagTests
+pub mod Filtering

@@ -1,3 +1,3 @@
 pub mod Growth
-pub mod Answers
-pub mod Kept
+pub mod GrowAnswers
+pub mod Keeps

@@ -8,9 +8,10 @@ use lib.Dec.{ltb}
 use lib.ListN.{length}
 use borrow.Author.Tests.{le-ltb, ltb-false}
 use Rattle.rdfs.specs.Numbers.{product, recordLength}
-use Rattle.rdfs.specs.Register.{orElse, cut, register, Table}
-use Rattle.rdfs.proofs.Steps.{table-passes}
-use Rattle.list_form.specs.declared.Listed.{Listed}
+use Rattle.rdfs.specs.Refusals.{orElse}
+use Rattle.rdfs.specs.Register.{cut, register, Table}
+use Rattle.rdfs.proofs.tickets.Steps.{table-passes}
+use Rattle.list_form.specs.declared.answers.Listed.{Listed}
 use Rattle.list_form.specs.Listing.{listRefusal, listingBy, listing, ListAnswered, ListPromise}
 use Rattle.list.specs.Demand3.{Ran}
 
@@ -28,7 +29,7 @@ module _ (w bytes answers : List ℕ) (t : Table product w) where
 
 -- A call that is not refused.
 module _ (w bytes answers : List ℕ) (e : listRefusal w bytes answers ≡ 0) where
-  pub listing-runs : listing w bytes answers ≡ listingBy 0 w answers (register product w bytes)
+  listing-runs : listing w bytes answers ≡ listingBy 0 w answers (register product w bytes)
   unfolding listing
   listing-runs = ap (λ n. listingBy n w answers (register product w bytes)) e
 

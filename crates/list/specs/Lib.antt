@@ -1,1 +1,2 @@
+pub mod CallContracts
 pub mod Demand3

@@ -2,54 +2,54 @@
 //
 // The public call is `apply_list`. It has no `requires`: it says, for all inputs, its answer, both counts,
 // and every word and byte afterwards. Demand 3, about a whole list by every call, is proved here
-// (proofs/Demand3). The crate assumes nothing.
+// (proofs/ListTheorem). The crate assumes nothing.
 ghost use Prim.Native.Nat.{_≤_};
 ghost use lib.ListN.{length};
 ghost use Rattle.rdfs.specs.Numbers.{product, recordLength};
 ghost use Rattle.rdfs.specs.Register.{cut, register, Table};
 ghost use Rattle.list_form.specs.Listing.{listing, ListAnswered};
 ghost use Rattle.list_form.specs.Loops.{AllRun};
-pub use list_form::Listed;
+use list_form::Listed;
 use list_form::count_tickets;
 use list_form::find_end;
 use list_form::list_refusal;
-use list_form::put_number;
+use list_form::put_answer;
 use list_form::sum_up;
 use table::Word;
 use ticket::apply_checked;
 
 // Runs the tickets in turn on a table known to be consistent. The answer is how many are accepted.
 fn run_checked(table: &mut [Word], bytes: &[u8], answers: &mut [u8]) -> usize
-    requires { ⌜ Table product (now table)
-        × (length (cut recordLength (now bytes)) ≤ length (now answers)) ⌝ }
-    ensures { λ r. ⌜ AllRun r (now (table .exit)) (now (answers .entry)) (now (answers .exit))
+    requires table { ⌜ Table product (now table) ⌝ }
+    requires room { ⌜ length (cut recordLength (now bytes)) ≤ length (now answers) ⌝ }
+    ensures answer { λ r. ⌜ AllRun r (now (table .exit)) (now (answers .entry)) (now (answers .exit))
         (register product (now (table .entry)) (now (bytes .entry))) ⌝ }
 {
-    let mut i = 0;
-    let mut k = 0;
-    let mut ok = 0;
-    while i < bytes.len() {
-        let e = find_end(i, bytes.len());
-        let applied = apply_checked(table, &bytes[i..e]);
-        ok = put_number(answers, k, ok, applied.answer);
-        k += 1;
-        i = e;
+    let mut from = 0;
+    let mut place = 0;
+    let mut accepted = 0;
+    while from < bytes.len() {
+        let to = find_end(from, bytes.len());
+        let applied = apply_checked(table, &bytes[from..to]);
+        accepted = put_answer(answers, place, accepted, applied.answer);
+        place += 1;
+        from = to;
     }
-    ok
+    accepted
 }
 
 // Runs a list of tickets in turn on one table, which is checked once. Each ticket's number goes to its answer
 // byte; bytes beyond the list are as they were. Refused with 1, 2, 3 or 14, the table and the answer bytes
 // are as found.
 pub fn apply_list(table: &mut [Word], bytes: &[u8], answers: &mut [u8]) -> Listed
-    ensures { λ r. ⌜ ListAnswered r (now (table .exit)) (now (answers .exit)) (listing (now (table .entry))
-        (now (bytes .entry)) (now (answers .entry))) ⌝ }
+    ensures answer { λ r. ⌜ ListAnswered r (now (table .exit)) (now (answers .exit))
+        (listing (now (table .entry)) (now (bytes .entry)) (now (answers .entry))) ⌝ }
 {
-    let n = count_tickets(bytes.len());
-    let answer = list_refusal(table, n, answers.len());
-    if answer != 0 {
-        return sum_up(answer, 0, 0);
+    let tickets = count_tickets(bytes.len());
+    let refusal = list_refusal(table, tickets, answers.len());
+    if refusal != 0 {
+        return sum_up(refusal, 0, 0);
     }
-    let ok = run_checked(table, bytes, answers);
-    sum_up(answer, n, ok)
+    let accepted = run_checked(table, bytes, answers);
+    sum_up(refusal, tickets, accepted)
 }

@@ -7,7 +7,7 @@ use native.Mathlib.Decide.{decLe}
 use lib.ListN.{length, take, drop, getD, length-drop, drop-of-length-le}
 use lib.Seq.{take-nil, take-all, take-add, length-take-le, drop-cons, drop-drop}
 use Rattle.rdfs.specs.Register.{cut}
-use Rattle.rdfs.proofs.Cut.{cut-more, cut-record, cut-short}
+use Rattle.rdfs.proofs.register.Cut.{cut-more, cut-record, cut-short}
 
 module _ (n : ℕ) (some : 0 < n) where
   pub cut-take : (k : ℕ) (l : List ℕ) → cut n (take (k * n) l) ≡ take k (cut n l)

@@ -5,26 +5,26 @@ ghost use Rattle.rdfs.specs.Numbers.{recordLength};
 ghost use Rattle.list_form.specs.Loops.{ticketsIn};
 use ticket_form::RECORD;
 
-// How many tickets n bytes make.
-pub fn count_tickets(n: usize) -> usize
-    ensures { λ r. ⌜ r ≡ ticketsIn n ⌝ }
+// How many tickets so many bytes make.
+pub fn count_tickets(length: usize) -> usize
+    ensures answer { λ r. ⌜ r ≡ ticketsIn length ⌝ }
 {
-    let whole = n / RECORD;
-    if n % RECORD == 0 {
+    let whole = length / RECORD;
+    if length % RECORD == 0 {
         return whole;
     }
     whole + 1
 }
 
-// Where the ticket from place i on ends, in n bytes: after its record, or with the bytes.
-pub fn find_end(i: usize, n: usize) -> usize
-    ensures { λ r. ⌜ r ≡ min (i + recordLength) n ⌝ }
+// Where the ticket from a place on ends, in so many bytes: after its record, or with the bytes.
+pub fn find_end(from: usize, length: usize) -> usize
+    ensures answer { λ r. ⌜ r ≡ min (from + recordLength) length ⌝ }
 {
-    if n < i {
-        return n;
+    if length < from {
+        return length;
     }
-    if n - i < RECORD {
-        return n;
+    if length - from < RECORD {
+        return length;
     }
-    i + RECORD
+    from + RECORD
 }

@@ -10,9 +10,9 @@ use lib.ListN.{length, take, getD}
 use lib.Seq.{take-suc, take-all}
 use borrow.Author.Tests.{eq-eqb, ne-eqb}
 use Rattle.rdfs.specs.Words.{filled}
-use Rattle.rdfs.proofs.Filters.{filter-append}
+use Rattle.rdfs.proofs.lists.Filters.{filter-append}
 use Rattle.text.specs.Text.{Number, Puts}
-use Rattle.print_facts.specs.Text.{WordLines, Printed}
+use Rattle.print_facts.specs.FactLines.{WordLines, WordsPrinted}
 
 -- The line of one word more.
 lines-more : (l : List ℕ) (w : ℕ) (text line : List ℕ) → WordLines l text → Number w 10 line
@@ -57,7 +57,7 @@ module _ (t : List ℕ) where
           (take at out) (p .text) (q .lines) (p .is)) in
           record { lines = subst (λ l. WordLines l (take r new)) (sym longer) text; short = omega (arith, short, q .short) }
 
-    pub gathered-done : i ≤ length t → length t ≤ i → 11 * length t ≤ length out → Printed (filled t) at out
+    pub gathered-done : i ≤ length t → length t ≤ i → 11 * length t ≤ length out → WordsPrinted (filled t) at out
     gathered-done h end room = record {
       lines = subst (λ l. WordLines (filled l) (take at out)) (take-all i t end) (q .lines);
       within = omega (arith, q .short, h, room);

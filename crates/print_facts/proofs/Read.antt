@@ -12,18 +12,18 @@ use Rattle.rdfs.specs.Numbers.{product}
 use borrow.Author.Tests.{ne-eqb}
 use Rattle.rdfs.specs.Words.{filled, padded}
 use Rattle.rdfs.specs.Register.{Table}
-use Rattle.rdfs.proofs.Lists.{none-in}
-use Rattle.rdfs.proofs.LaidOut.{filled-before}
-use Rattle.rdfs.proofs.Steps.{checked-table}
+use Rattle.rdfs.proofs.lists.ListLaws.{none-in}
+use Rattle.rdfs.proofs.words.LaidOut.{filled-before}
+use Rattle.rdfs.proofs.tickets.Steps.{checked-table}
 use Rattle.rdfs.proofs.Theorems.{product-sound}
-use Rattle.contents.specs.Form.{form, largestFact, firstBody}
+use Rattle.contents.specs.ImageForm.{form, largestFact, firstBody}
 use Rattle.contents.specs.Reading.{wordsOf}
 use Rattle.contents.proofs.RoundTrip.{words-some}
 use Rattle.writing.specs.Writing.{Writable}
 use Rattle.writing.proofs.Measuring.{image-small}
-use Rattle.reading.specs.Calls.{readAnswer, readWords}
-use Rattle.image.proofs.Theorems.{read-writes}
-use Rattle.print_facts.specs.Text.{Printed, PrintedFor, Lent, wordsRead}
+use Rattle.reading.specs.ReadPromise.{readAnswer, readWords}
+use Rattle.image.proofs.ImageTheorems.{read-writes}
+use Rattle.print_facts.specs.FactLines.{WordsPrinted, FactsPrinted, ImageLent, wordsRead}
 
 abbrev room : List ℕ
 room = replicate (product .most) 0
@@ -51,16 +51,16 @@ long-unread image h = elim (ℕ-discrete (readAnswer room image) 0) [
 ]
 
 -- The lines of the bytes read are those of any image that they begin: they are all of it, or too many.
-module _ {n : ℕ} {buffer out : List ℕ} (lent : Lent n buffer out) where
+module _ {n : ℕ} {buffer out : List ℕ} (lent : ImageLent n buffer out) where
   pub whole-printed : {r : ℕ} {new : List ℕ} → n ≤ firstBody form + largestFact form * product .most
-      → Printed (wordsRead (take n buffer)) r new → PrintedFor buffer n r new
+      → WordsPrinted (wordsRead (take n buffer)) r new → FactsPrinted buffer n r new
   whole-printed {r} {new} few p image b =
       let all : length image ≡ n = b .all (omega (arith, few, lent .longer)) in
       let same : take n buffer ≡ image = sym (b .first) ∙ take-all n image (omega (arith, all)) in
-      subst (λ i. Printed (wordsRead i) r new) same p
+      subst (λ i. WordsPrinted (wordsRead i) r new) same p
 
-  pub none-printed : {new : List ℕ} → firstBody form + largestFact form * product .most < n → PrintedFor buffer n 0 new
+  pub none-printed : {new : List ℕ} → firstBody form + largestFact form * product .most < n → FactsPrinted buffer n 0 new
   none-printed {new} many image b =
       let long : firstBody form + largestFact form * product .most < length image =
       omega (arith, many, ap length (b .first), length-take-le n buffer (lent .within), length-take n image) in
-      subst (λ l. Printed l 0 new) (sym (long-unread image long)) (record { lines = refl; within = omega arith })
+      subst (λ l. WordsPrinted l 0 new) (sym (long-unread image long)) (record { lines = refl; within = omega arith })

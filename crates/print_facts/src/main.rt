@@ -12,10 +12,10 @@ use streams::write_output;
 fn main() {
     let mut input = [0u8; LONGEST + 1];
     let filled = read_input(b"print_facts", &mut input);
-    let Filled::Read(n) = filled else {
+    let Filled::Read(count) = filled else {
         return;
     };
     let mut out = io::large_buffer();
-    let k = put_read(&input, n, &mut out);
-    write_output(b"print_facts", &out[..k]);
+    let length = put_read(&input, count, &mut out);
+    write_output(b"print_facts", &out[..length]);
 }

@@ -20,20 +20,25 @@ use Rattle.rdfs.specs.Register.{step, run, Table}
 use Rattle.rdfs.specs.Lookups.{lookupClash}
 use Rattle.rdfs.specs.Orders.{SameTickets, InOrder, AllInsertions, AllAccepted}
 use Rattle.rdfs.specs.Promises.{After, Formed, Judged, Possible, PossibleUpTo, unchanged}
-use Rattle.rdfs.proofs.Tests.{tests-self, tests-agree}
-use Rattle.rdfs.proofs.Parts.{All}
-use Rattle.rdfs.proofs.Allowed.{Allowed}
-use Rattle.rdfs.proofs.Decision.{check-sound, check-complete}
-use Rattle.rdfs.proofs.InsertionSmallest.{insertion-smallest, insertion-clash}
-use Rattle.rdfs.proofs.TicketTests.{asked-allowed}
-use Rattle.rdfs.proofs.AskedSeeds.{asked-seeds}
-use Rattle.rdfs.proofs.Steps.{refused-keeps}
-use Rattle.rdfs.proofs.InsertionSteps.{accepted-smallest, refused-impossible, impossible-refused, eleven-impossible}
-use Rattle.rdfs.proofs.DeletionSteps.{deletion-accepted, accepted-largest, repeated-deletion}
-use Rattle.rdfs.proofs.Within.{repeated-insertion}
-use Rattle.rdfs.proofs.AfterEach.{after-each}
-use Rattle.rdfs.proofs.Rearrangement
-use Rattle.rdfs.proofs.LookupClash.{lookup-clash-sound, lookup-clash-complete}
+use Rattle.rdfs.proofs.lists.Tests.{tests-self, tests-agree}
+use Rattle.rdfs.proofs.consistency.LawfulParts.{All}
+use Rattle.rdfs.proofs.words.Allowed.{Allowed}
+use Rattle.rdfs.proofs.consistency.Decision.{check-sound, check-complete}
+use Rattle.rdfs.proofs.insertion.InsertionSmallest.{insertion-smallest, insertion-clash}
+use Rattle.rdfs.proofs.tickets.TicketTests.{asked-allowed}
+use Rattle.rdfs.proofs.insertion.AskedSeeds.{asked-seeds}
+use Rattle.rdfs.proofs.tickets.Steps.{refused-keeps}
+use Rattle.rdfs.proofs.insertion.InsertionSteps.{
+  accepted-smallest,
+  refused-impossible,
+  impossible-refused,
+  eleven-impossible,
+}
+use Rattle.rdfs.proofs.deletion.DeletionSteps.{deletion-accepted, accepted-largest, repeated-deletion}
+use Rattle.rdfs.proofs.insertion.Within.{repeated-insertion}
+use Rattle.rdfs.proofs.register.AfterEach.{after-each}
+use Rattle.rdfs.proofs.register.Rearrangement
+use Rattle.rdfs.proofs.clash.LookupClash.{lookup-clash-sound, lookup-clash-complete}
 
 -- The product's numbers are such.
 pub product-sound : Sound product
@@ -56,66 +61,69 @@ arity-is (pi a b c) = refl
 pub decision-exact : (K : List Fact) → (T (consistent? K) → Consistent (graph K)) × (Consistent (graph K) → T (consistent? K))
 decision-exact K = (check-sound K, check-complete K)
 
-module _ (N : Numbers) (s : Sound N) (w bytes : List ℕ) (t : Table N w) where
+module _ (N : Numbers) (s : Sound N) (table bytes : List ℕ) (q : Table N table) where
   -- An insertion that is not refused leaves the smallest consistent graph that holds the table and the asked facts.
-  pub insertion-is-smallest : T (inserts (decoded bytes)) → step N w bytes .number ≡ 0
-      → Smallest (graph (facts N w)) (graph (asked (decoded bytes))) (graph (facts N (step N w bytes .table)))
-  insertion-is-smallest i e = accepted-smallest N s w bytes t i e
+  pub insertion-is-smallest : T (inserts (decoded bytes)) → step N table bytes .number ≡ 0
+      → Smallest (graph (facts N table)) (graph (asked (decoded bytes))) (graph (facts N (step N table bytes .table)))
+  insertion-is-smallest i e = accepted-smallest N s table bytes q i e
 
-  -- An insertion past refusal 9 is refused with 10 exactly if no consistent graph holds the table and the asked facts: 10 if none
+  -- An insertion past refusal 9 is refused with 10 exactly if no lawful graph holds the table and the asked facts: 10 if none
   -- does, whatever its ids; else one does whose facts a table can have.
-  pub ten-is-exact : T (inserts (decoded bytes)) → Formed N bytes → (T (unknownProperty (facts N w) (decoded bytes)) → ⊥)
-      → (step N w bytes .number ≡ 10 → Possible (graph (facts N w)) (graph (asked (decoded bytes))) → ⊥)
-      × ((step N w bytes .number ≡ 10 → ⊥) → PossibleUpTo (N .top) (graph (facts N w)) (graph (asked (decoded bytes))))
-  ten-is-exact i f u = (refused-impossible N s w bytes t i f, impossible-refused N s w bytes t i f u)
+  pub ten-is-exact : T (inserts (decoded bytes)) → Formed N bytes → (T (unknownProperty (facts N table) (decoded bytes)) → ⊥)
+      → (step N table bytes .number ≡ 10 → Possible (graph (facts N table)) (graph (asked (decoded bytes))) → ⊥)
+      × ((step N table bytes .number ≡ 10 → ⊥) → PossibleUpTo (N .top) (graph (facts N table)) (graph (asked (decoded bytes))))
+  ten-is-exact i f u = (refused-impossible N s table bytes q i f, impossible-refused N s table bytes q i f u)
 
   -- An insertion is refused with 11 only if no table of as many words holds a consistent graph with the table's facts and the
   -- asked ones.
-  pub eleven-only-if-full : T (inserts (decoded bytes)) → step N w bytes .number ≡ 11
-      → (v : List ℕ) → Table N v → length v ≡ length w → _⊑_ (graph (facts N w)) (graph (facts N v))
+  pub eleven-only-if-full : T (inserts (decoded bytes)) → step N table bytes .number ≡ 11
+      → (v : List ℕ) → Table N v → length v ≡ length table → _⊑_ (graph (facts N table)) (graph (facts N v))
       → _⊑_ (graph (asked (decoded bytes))) (graph (facts N v)) → ⊥
-  eleven-only-if-full i = eleven-impossible N s w bytes t i
+  eleven-only-if-full i = eleven-impossible N s table bytes q i
 
   -- A deletion past refusal 8 is never refused, and leaves the largest consistent part of its family without the fact.
   pub deletion-is-largest : T (deletes (decoded bytes)) → Formed N bytes
-      → (step N w bytes .number ≡ 0) × Largest (graph (facts N w)) (named (decoded bytes)) (keeps (named (decoded bytes)))
-      (graph (facts N (step N w bytes .table)))
-  deletion-is-largest d f = (deletion-accepted N s w bytes t d f, accepted-largest N s w bytes t d f)
+      → (step N table bytes .number ≡ 0) × Largest (graph (facts N table)) (named (decoded bytes)) (keeps (named (decoded bytes)))
+      (graph (facts N (step N table bytes .table)))
+  deletion-is-largest d f = (deletion-accepted N s table bytes q d f, accepted-largest N s table bytes q d f)
 
   -- A ticket whose facts are all there, or whose fact is gone, is accepted past refusal 8 and changes nothing.
-  pub repeat-changes-nothing : Formed N bytes → (T (inserts (decoded bytes)) × (asked (decoded bytes) ⊆ facts N w))
-      ⊎ (T (deletes (decoded bytes)) × (named (decoded bytes) ∈ facts N w → ⊥)) → step N w bytes ≡ unchanged w
-  repeat-changes-nothing f (inl h) = repeated-insertion N s w bytes t (h .0) f (h .1)
-  repeat-changes-nothing f (inr h) = repeated-deletion N s w bytes t (h .0) f (h .1)
+  pub repeat-changes-nothing : Formed N bytes → (T (inserts (decoded bytes)) × (asked (decoded bytes) ⊆ facts N table))
+      ⊎ (T (deletes (decoded bytes)) × (named (decoded bytes) ∈ facts N table → ⊥)) → step N table bytes ≡ unchanged table
+  repeat-changes-nothing f (inl h) = repeated-insertion N s table bytes q (h .0) f (h .1)
+  repeat-changes-nothing f (inr h) = repeated-deletion N s table bytes q (h .0) f (h .1)
 
 -- A refusal, on any words whatever, changes no word, and both counts are 0.
-pub refusal-changes-nothing : (N : Numbers) (w bytes : List ℕ) → (step N w bytes .number ≡ 0 → ⊥) → (step N w bytes .table ≡ w)
-    × (step N w bytes .added ≡ 0) × (step N w bytes .removed ≡ 0)
-refusal-changes-nothing N w bytes n = let k = refused-keeps N w bytes n in (k .table, k .added, k .removed)
+pub refusal-changes-nothing : (N : Numbers) (table bytes : List ℕ) → (step N table bytes .number ≡ 0 → ⊥)
+    → (step N table bytes .table ≡ table)
+    × (step N table bytes .added ≡ 0) × (step N table bytes .removed ≡ 0)
+refusal-changes-nothing N table bytes n = let k = refused-keeps N table bytes n in (k .table, k .added, k .removed)
 
 -- After every ticket of a list, whatever its bytes: see `After` for the six promises.
-pub every-ticket : (N : Numbers) → Sound N → (w : List ℕ) → Table N w → (before : List (List ℕ)) (t : List ℕ)
-    → After N (run N w before .table) t
+pub every-ticket : (N : Numbers) → Sound N → (table : List ℕ) → Table N table → (before : List (List ℕ)) (ticket : List ℕ)
+    → After N (run N table before .table) ticket
 every-ticket = after-each
 
 -- Insertions only, all accepted: every rearrangement in order is accepted whole and ends in the same words.
-pub rearranged-the-same : (N : Numbers) → Sound N → (w : List ℕ) → Table N w → (l m : List (List ℕ)) → AllInsertions l
-    → AllAccepted (run N w l .numbers) → SameTickets l m → InOrder (facts N w) m
-    → AllAccepted (run N w m .numbers) × (run N w m .table ≡ run N w l .table)
+pub rearranged-the-same : (N : Numbers) → Sound N → (table : List ℕ) → Table N table → (l m : List (List ℕ)) → AllInsertions l
+    → AllAccepted (run N table l .numbers) → SameTickets l m → InOrder (facts N table) m
+    → AllAccepted (run N table m .numbers) × (run N table m .table ≡ run N table l .table)
 rearranged-the-same = Rearrangement.rearrangement
 
 -- The clash by lookups is the register's.
-pub lookup-clash-is-clash : (top : ℕ) (K : List Fact) (t : Ticket) → All (Allowed top) K → T (inserts t) → Judged top K t
-    → lookupClash K t ≡ clashes (insertion top K (asked t))
-lookup-clash-is-clash top K t aK i j =
-    let an : All (Allowed top) (asked t) = asked-allowed top t i (j .kinds) (j .ids) in
-    tests-agree (tests-self (lookupClash K t)) record {
-      sound = λ h. stands (lookupClash K t) (λ n.
-          let p = lookup-clash-complete top K t j n in
-          insertion-clash top K (asked t) aK an h (p .0) (p .1) (p .2) (p .3));
-      complete = λ h. stands (clashes (insertion top K (asked t))) (λ n.
-          let m = insertion-smallest top K (asked t) aK an (asked-seeds K t (j .consistent) (j .kinds) (j .uses)) n in
-          lookup-clash-sound top K t j h (graph (insertion top K (asked t))) (m .consistent) (m .holds-table) (m .holds-asked));
+pub lookup-clash-is-clash : (top : ℕ) (K : List Fact) (ticket : Ticket) → All (Allowed top) K → T (inserts ticket)
+    → Judged top K ticket
+    → lookupClash K ticket ≡ clashes (insertion top K (asked ticket))
+lookup-clash-is-clash top K ticket aK i j =
+    let an : All (Allowed top) (asked ticket) = asked-allowed top ticket i (j .kinds) (j .ids) in
+    tests-agree (tests-self (lookupClash K ticket)) record {
+      sound = λ h. stands (lookupClash K ticket) (λ n.
+          let p = lookup-clash-complete top K ticket j n in
+          insertion-clash top K (asked ticket) aK an h (p .0) (p .1) (p .2) (p .3));
+      complete = λ h. stands (clashes (insertion top K (asked ticket))) (λ n.
+          let m = insertion-smallest top K (asked ticket) aK an (asked-seeds K ticket (j .consistent) (j .kinds) (j .uses)) n in
+          lookup-clash-sound top K ticket j h (graph (insertion top K (asked ticket))) (m .consistent) (m .holds-table)
+          (m .holds-asked));
     }
   where
     stands : (b : Bool) → ((T b → ⊥) → ⊥) → T b

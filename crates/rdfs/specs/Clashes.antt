@@ -43,10 +43,11 @@ mixed z w = (eqb z 1 && not (eqb w 1)) || (not (eqb z 1) && eqb w 1)
 -- Facts of K that may not stand beside one by their ids: H4; 16 and 17.
 unfoldable pub unequal : List Fact → Fact → Bool
 unequal K f =
-    cond (eqb (kind f) 6) (any (λ g. any (λ h. mixed (second g) (second h)) (withA K 8 (second f)))
+    cond (eqb (kind f) 6)
+    (any (λ lower. any (λ upper. mixed (second lower) (second upper)) (withA K 8 (second f)))
     (withA K 8 (first f)))
-    (cond (eqb (kind f) 7 || eqb (kind f) 8) (any (λ g. not (eqb (second f) (second g)))
-    (withA K (kind f) (first f))) false)
+    (cond (eqb (kind f) 7 || eqb (kind f) 8)
+    (any (λ g. not (eqb (second f) (second g))) (withA K (kind f) (first f))) false)
 
 abbrev pub clash : List Fact → Fact → Bool
 clash K f = any (has K) (bars f) || unequal K f

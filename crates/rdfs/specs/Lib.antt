@@ -9,6 +9,7 @@ pub mod Clashes
 pub mod Insertion
 pub mod Deletion
 pub mod Tickets
+pub mod Refusals
 pub mod Register
 pub mod Lookups
 pub mod Orders

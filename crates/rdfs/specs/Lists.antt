@@ -17,30 +17,30 @@ abbrev pub _⊆_ : {A : Type 0} → List A → List A → Type 0
 _⊆_ {A} l m = (x : A) → x ∈ l → x ∈ m
 
 abbrev pub filter : {A : Type 0} → (A → Bool) → List A → List A
-filter p [] = []
-filter p (x ∷ l) = cond (p x) (x ∷ filter p l) (filter p l)
+filter test [] = []
+filter test (x ∷ l) = cond (test x) (x ∷ filter test l) (filter test l)
 
 abbrev pub concatMap : {A B : Type 0} → (A → List B) → List A → List B
-concatMap f [] = []
-concatMap f (x ∷ l) = f x ++ concatMap f l
+concatMap each [] = []
+concatMap each (x ∷ l) = each x ++ concatMap each l
 
 abbrev pub all : {A : Type 0} → (A → Bool) → List A → Bool
-all p [] = true
-all p (x ∷ l) = p x && all p l
+all test [] = true
+all test (x ∷ l) = test x && all test l
 
 abbrev pub any : {A : Type 0} → (A → Bool) → List A → Bool
-any p [] = false
-any p (x ∷ l) = p x || any p l
+any test [] = false
+any test (x ∷ l) = test x || any test l
 
 abbrev pub member : List ℕ → ℕ → Bool
-member l x = any (eqb x) l
+member l n = any (eqb n) l
 
 -- How many members pass a test.
 abbrev pub count : {A : Type 0} → (A → Bool) → List A → ℕ
-count p [] = 0
-count p (x ∷ l) = cond (p x) 1 0 + count p l
+count test [] = 0
+count test (x ∷ l) = cond (test x) 1 0 + count test l
 
 -- Ascending, none twice.
 abbrev pub Ascending : List ℕ → Type 0
 Ascending [] = Unit {0}
-Ascending (x ∷ l) = ((y : ℕ) → y ∈ l → x < y) × Ascending l
+Ascending (n ∷ l) = ((m : ℕ) → m ∈ l → n < m) × Ascending l

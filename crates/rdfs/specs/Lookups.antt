@@ -12,7 +12,7 @@ use Rattle.rdfs.specs.Tickets.{Ticket, asked}
 
 -- x is a class, property, individual or literal, and not by a fact of kind k.
 abbrev pub otherRole : List Fact → ℕ → ℕ → Bool
-otherRole K k x = any (λ j. not (eqb j k) && has K (made j x 0 0)) (1 ∷ 2 ∷ 3 ∷ 4 ∷ [])
+otherRole K k x = any (λ m. not (eqb m k) && has K (made m x 0 0)) (1 ∷ 2 ∷ 3 ∷ 4 ∷ [])
 
 -- The b of the first fact; 0 if there is none.
 abbrev pub firstB : List Fact → ℕ
@@ -39,7 +39,8 @@ newPropertyClash K a b c =
     otherRole K 0 a || (otherRole K 1 b || ((not (eqb c 1) && otherRole K 1 c) || (eqb a b || eqb a c)))
 
 abbrev pub propertyClash : List Fact → Ticket → Bool
-propertyClash K t = not (all (has K) (asked t)) && newPropertyClash K (t .a) (t .b) (t .c)
+propertyClash K ticket =
+    not (all (has K) (asked ticket)) && newPropertyClash K (ticket .a) (ticket .b) (ticket .c)
 
 -- CSub(a,b) can't be, whatever else a and b are.
 abbrev pub noLink : List Fact → ℕ → ℕ → Bool
@@ -67,8 +68,10 @@ abbrev pub valueClash : List Fact → ℕ → ℕ → ℕ → Bool
 valueClash K a b c = otherRole K 3 a || noValue K a b c
 
 unfoldable pub lookupClash : List Fact → Ticket → Bool
-lookupClash K t =
-    cond (eqb (t .kind) 2) (propertyClash K t) (cond (eqb (t .kind) 5) (classLinkClash K (t .a) (t .b))
-    (cond (eqb (t .kind) 6) (propertyLinkClash K (t .a) (t .b)) (cond (eqb (t .kind) 9)
-    (memberClash K (t .a) (t .b))
-    (cond (eqb (t .kind) 10) (valueClash K (t .a) (t .b) (t .c)) (otherRole K (t .kind) (t .a))))))
+lookupClash K ticket =
+    cond (eqb (ticket .kind) 2) (propertyClash K ticket)
+    (cond (eqb (ticket .kind) 5) (classLinkClash K (ticket .a) (ticket .b))
+    (cond (eqb (ticket .kind) 6) (propertyLinkClash K (ticket .a) (ticket .b))
+    (cond (eqb (ticket .kind) 9) (memberClash K (ticket .a) (ticket .b))
+    (cond (eqb (ticket .kind) 10) (valueClash K (ticket .a) (ticket .b) (ticket .c))
+    (otherRole K (ticket .kind) (ticket .a))))))

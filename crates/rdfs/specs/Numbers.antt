@@ -1,9 +1,8 @@
 -- The numbers of a table and a ticket, in one place; definitions and theorems take the first three as
 -- parameters. In formulas, as in document 01, id 0 is Resource and id 1 the mark Literal.
 use Prim.Native.Nat.{ℕ, _≤_, _<_}
-use mathlib.Core.Bool.{cond}
 use mathlib.Core.List.{List, [], _∷_}
-use lib.Dec.{eqb, leb}
+use lib.ListN.{length, getD}
 
 -- The highest id; the base at which a word's kind and ids are digits; the most words of a table.
 pub record Numbers : Type 0 where
@@ -24,9 +23,16 @@ product = record { top = 255; base = 256; most = 2048 }
 abbrev pub recordLength : ℕ
 recordLength = 5
 
+-- How many ids a fact of each kind has, from kind 1 on; how many kinds there are.
+abbrev pub arities : List ℕ
+arities = 1 ∷ 1 ∷ 1 ∷ 1 ∷ 2 ∷ 2 ∷ 2 ∷ 2 ∷ 2 ∷ 3 ∷ []
+
+abbrev pub kindCount : ℕ
+kindCount = length arities
+
 -- How many ids a fact of a kind has; 0 if the number is no kind.
 abbrev pub arity : ℕ → ℕ
-arity k = cond (eqb k 0) 0 (cond (leb k 4) 1 (cond (leb k 9) 2 (cond (eqb k 10) 3 0)))
+arity k = getD (0 ∷ arities) k 0
 
 -- The kinds that a ticket may have.
 abbrev pub ticketKinds : List ℕ

@@ -7,7 +7,7 @@ use lib.Dec.{T}
 use Rattle.rdfs.specs.Numbers.{Numbers, ticketKinds}
 use Rattle.rdfs.specs.Lists.{_∈_, _⊆_}
 use Rattle.rdfs.specs.Facts.{Fact, Graph, pr, graph, _⊑_}
-use Rattle.rdfs.specs.Consistency.{Consistent}
+use Rattle.rdfs.specs.Consistency.{Lawful, Consistent}
 use Rattle.rdfs.specs.Words.{allowed, facts}
 use Rattle.rdfs.specs.Tickets.{
   Ticket,
@@ -34,34 +34,35 @@ pub record Formed (N : Numbers) (bytes : List ℕ) : Type 0 where
   pub free : T (guarded (decoded bytes)) → ⊥
 
 -- An insertion past refusal 9, on the facts of a consistent table.
-pub record Judged (top : ℕ) (K : List Fact) (t : Ticket) : Type 0 where
+pub record Judged (top : ℕ) (K : List Fact) (ticket : Ticket) : Type 0 where
   pub consistent : Consistent (graph K)
-  pub kinds : t .kind ∈ ticketKinds
-  pub ids : T (badIds top t) → ⊥
-  pub uses : (p : ℕ) → Uses t p → pr p ∈ K
+  pub kinds : ticket .kind ∈ ticketKinds
+  pub ids : T (badIds top ticket) → ⊥
+  pub uses : (p : ℕ) → Uses ticket p → pr p ∈ K
 
--- Some consistent graph holds G and A.
+-- Some lawful graph holds G and A.
 abbrev pub Possible : Graph → Graph → Type 1
-Possible G A = (H : Graph) × Consistent H × _⊑_ G H × _⊑_ A H
+Possible G A = (H : Graph) × Lawful H × _⊑_ G H × _⊑_ A H
 
--- Some consistent graph of facts that a table can have: ids up to the highest, the mark in its place.
+-- Some lawful graph of facts that a table can have: ids up to the highest, the mark in its place.
 abbrev pub PossibleUpTo : ℕ → Graph → Graph → Type 1
-PossibleUpTo top G A = (H : Graph) × Consistent H × _⊑_ G H × _⊑_ A H × ((f : Fact) → H f → T (allowed top f))
+PossibleUpTo top G A = (H : Graph) × Lawful H × _⊑_ G H × _⊑_ A H × ((f : Fact) → H f → T (allowed top f))
 
 -- A ticket that changes nothing.
 abbrev pub unchanged : List ℕ → Answer
-unchanged w = record { number = 0; added = 0; removed = 0; table = w }
+unchanged table = record { number = 0; added = 0; removed = 0; table = table }
 
 -- What holds after one ticket on the words of a table.
-pub record After (N : Numbers) (w bytes : List ℕ) : Type 0 where
-  pub rules : Table N (step N w bytes .table)
-  pub refused : (step N w bytes .number ≡ 0 → ⊥) → (step N w bytes .table ≡ w) × (step N w bytes .added ≡ 0)
-      × (step N w bytes .removed ≡ 0)
-  pub there-are : step N w bytes .number ≡ 0 → T (inserts (decoded bytes)) → asked (decoded bytes) ⊆ facts N
-      (step N w bytes .table)
-  pub is-gone : step N w bytes .number ≡ 0 → T (deletes (decoded bytes)) → named (decoded bytes) ∈ facts N
-      (step N w bytes .table) → ⊥
-  pub grows : T (inserts (decoded bytes)) → (step N w bytes .removed ≡ 0)
-      × (facts N w ⊆ facts N (step N w bytes .table))
-  pub shrinks : T (deletes (decoded bytes)) → (step N w bytes .added ≡ 0)
-      × (facts N (step N w bytes .table) ⊆ facts N w)
+pub record After (N : Numbers) (table bytes : List ℕ) : Type 0 where
+  pub rules : Table N (step N table bytes .table)
+  pub refused : (step N table bytes .number ≡ 0 → ⊥)
+      → (step N table bytes .table ≡ table) × (step N table bytes .added ≡ 0)
+      × (step N table bytes .removed ≡ 0)
+  pub there-are : step N table bytes .number ≡ 0 → T (inserts (decoded bytes))
+      → asked (decoded bytes) ⊆ facts N (step N table bytes .table)
+  pub is-gone : step N table bytes .number ≡ 0 → T (deletes (decoded bytes))
+      → named (decoded bytes) ∈ facts N (step N table bytes .table) → ⊥
+  pub grows : T (inserts (decoded bytes))
+      → (step N table bytes .removed ≡ 0) × (facts N table ⊆ facts N (step N table bytes .table))
+  pub shrinks : T (deletes (decoded bytes))
+      → (step N table bytes .added ≡ 0) × (facts N (step N table bytes .table) ⊆ facts N table)

@@ -13,7 +13,7 @@ abbrev pub word : ℕ → Fact → ℕ
 word base f = ((kind f * base + first f) * base + second f) * base + third f
 
 abbrev pub fact : ℕ → ℕ → Fact
-fact base w = made (w / base / base / base) (w / base / base % base) (w / base % base) (w % base)
+fact base n = made (n / base / base / base) (n / base / base % base) (n / base % base) (n % base)
 
 -- Ids up to the highest, id 1 only as b of Rng.
 abbrev pub allowed : ℕ → Fact → Bool
@@ -23,29 +23,29 @@ allowed top f =
 
 -- The word of an allowed fact. No other word is a fact.
 abbrev pub isFact : Numbers → ℕ → Bool
-isFact N w = let f : Fact = fact (N .base) w in eqb (word (N .base) f) w && allowed (N .top) f
+isFact N n = let f : Fact = fact (N .base) n in eqb (word (N .base) f) n && allowed (N .top) f
 
 -- Words of facts from `least` on, ascending, none twice, then zeros to the end.
 abbrev pub laidOut : Numbers → ℕ → List ℕ → Bool
 laidOut N least [] = true
-laidOut N least (w ∷ l) =
-    cond (eqb w 0) (all (λ x. eqb x 0) l) (leb least w && (isFact N w && laidOut N (suc w) l))
+laidOut N least (n ∷ l) =
+    cond (eqb n 0) (all (λ m. eqb m 0) l) (leb least n && (isFact N n && laidOut N (suc n) l))
 
 -- The words of a table before its zeros, and the facts they stand for.
 abbrev pub filled : List ℕ → List ℕ
-filled w = filter (λ x. not (eqb x 0)) w
+filled table = filter (λ n. not (eqb n 0)) table
 
 abbrev pub facts : Numbers → List ℕ → List Fact
-facts N w = map (fact (N .base)) (filled w)
+facts N table = map (fact (N .base)) (filled table)
 
 -- A number put at its place of an ascending list, unless it is there.
 abbrev pub put : ℕ → List ℕ → List ℕ
-put x [] = x ∷ []
-put x (y ∷ l) = cond (ltb x y) (x ∷ y ∷ l) (cond (eqb x y) (y ∷ l) (y ∷ put x l))
+put n [] = n ∷ []
+put n (m ∷ l) = cond (ltb n m) (n ∷ m ∷ l) (cond (eqb n m) (m ∷ l) (m ∷ put n l))
 
 abbrev pub sort : List ℕ → List ℕ
 sort [] = []
-sort (x ∷ l) = put x (sort l)
+sort (n ∷ l) = put n (sort l)
 
 -- The words of facts, ascending, none twice.
 abbrev pub words : Numbers → List Fact → List ℕ
@@ -53,8 +53,8 @@ words N K = sort (map (word (N .base)) K)
 
 -- Zeros to a table's length.
 abbrev pub padded : ℕ → List ℕ → List ℕ
-padded n l = l ++ replicate (n - length l) 0
+padded size l = l ++ replicate (size - length l) 0
 
--- A fresh table of n words: Cl(0) only.
+-- A fresh table of so many words: Cl(0) only.
 abbrev pub fresh : Numbers → ℕ → List ℕ
-fresh N n = padded n (words N (Fact.cl 0 ∷ []))
+fresh N size = padded size (words N (Fact.cl 0 ∷ []))

@@ -11,14 +11,14 @@ use Rattle.rdfs.specs.Numbers.{product}
 use Rattle.rdfs.specs.Lists.{_∈_, here, there}
 use Rattle.rdfs.specs.Clashes.{consistent?}
 use Rattle.rdfs.specs.Words.{fact, isFact, laidOut, filled, padded}
-use Rattle.rdfs.specs.Register.{orElse, badSize, badLayout, inconsistent, tableRefusal}
-use Rattle.rdfs.proofs.Lists.{none-in}
-use Rattle.rdfs.proofs.LaidOut.{filled-before, laid-from}
-use Rattle.rdfs.proofs.Tables.{padded-length}
+use Rattle.rdfs.specs.Refusals.{orElse, badSize, badLayout, inconsistent, tableRefusal}
+use Rattle.rdfs.proofs.lists.ListLaws.{none-in}
+use Rattle.rdfs.proofs.words.LaidOut.{filled-before, laid-from}
+use Rattle.rdfs.proofs.words.Tables.{padded-length}
 use Rattle.rdfs.proofs.Theorems.{product-sound}
-use Rattle.table.proofs.Answers.{is-true}
-use Rattle.table.proofs.Rising.{laid-some}
-use Rattle.contents.specs.Form.{form}
+use Rattle.table.proofs.TestAnswers.{is-true}
+use Rattle.table.proofs.LayoutWalks.{laid-some}
+use Rattle.contents.specs.ImageForm.{form}
 use Rattle.contents.specs.Reading.{wordsOf}
 use Rattle.contents.proofs.RoundTrip.{words-some, words-full}
 

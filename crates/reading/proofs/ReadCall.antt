@@ -11,15 +11,15 @@ use lib.ListN.{length, drop, replicate}
 use borrow.Author.Tests.{eq-eqb, ne-eqb, lt-ltb, le-ltb, ltb-false}
 use Rattle.rdfs.specs.Numbers.{product}
 use Rattle.rdfs.specs.Words.{padded}
-use Rattle.rdfs.specs.Register.{orElse, badSize, inconsistent, tableRefusal}
-use Rattle.rdfs.proofs.Tables.{padded-length}
-use Rattle.rdfs.proofs.Refusals.{passed-link}
-use Rattle.table.proofs.Answers.{is-false}
+use Rattle.rdfs.specs.Refusals.{orElse, badSize, inconsistent, tableRefusal}
+use Rattle.rdfs.proofs.words.Tables.{padded-length}
+use Rattle.rdfs.proofs.tickets.FirstTrue.{passed-link}
+use Rattle.table.proofs.TestAnswers.{is-false}
 use Rattle.table.proofs.Sizes.{tests-size}
-use Rattle.contents.specs.Form.{form}
+use Rattle.contents.specs.ImageForm.{form}
 use Rattle.contents.specs.Reading.{wordsOf, malformed}
 use Rattle.reading.specs.Fitting.{Fitting}
-use Rattle.reading.specs.Calls.{imageRefusal, readAnswer, readWords, ReadPromise}
+use Rattle.reading.specs.ReadPromise.{imageRefusal, readAnswer, readWords, ReadPromise}
 use Rattle.contents.proofs.InBytes.{AllBytes}
 use Rattle.contents.proofs.Product.{right-malformed}
 use Rattle.reading.proofs.Held.{drop-zeros, held-checked}
@@ -112,7 +112,7 @@ module _ (t bytes : List ℕ) (b : AllBytes bytes) (f : Fitting t bytes) (zeros 
   module _ (r : ℕ) (q : r ≡ tableRefusal product work 0) where
     judged : orElse (malformed product form bytes) 2 (last bytes) ≡ r
     judged =
-        ap (λ m. orElse m 2 (last bytes)) (right-malformed bytes b (f .contents))
+        ap (λ m. orElse m 2 (last bytes)) (right-malformed (f .contents .form) bytes b (f .contents .right))
         ∙ sym (q ∙ (ap (λ w. tableRefusal product w 0) work-held ∙ held-checked t bytes (f .size) (f .fits)))
 
     -- 2 is 12, and any other answer is reading's.

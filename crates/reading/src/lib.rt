@@ -2,10 +2,11 @@
 //
 // The public call is `read`, which crate `image` passes on. It has no `requires`: it says, for all inputs,
 // what it answers and every word afterwards. The crate assumes nothing.
-ghost use Rattle.reading.specs.Calls.{ReadPromise};
+ghost use Rattle.reading.specs.ReadPromise.{ReadPromise};
 
 mod reader;
 
+use contents::FORM;
 use contents::has_contents;
 use reader::count_words;
 use reader::overfull_refusal;
@@ -18,22 +19,22 @@ use table::is_bad_size;
 
 // Reads an image into a table: its words, then zeros. Refused with 1, 12, 11 or 3, the words are as they
 // were. The words that the table held are not looked at.
-pub fn read(t: &mut [Word], image: &[u8]) -> u8
-    ensures { λ r. ⌜ ReadPromise (now (t .entry)) (now (image .entry)) r (now (t .exit)) ⌝ }
+pub fn read(table: &mut [Word], image: &[u8]) -> u8
+    ensures promise { λ r. ⌜ ReadPromise (now (table .entry)) (now (image .entry)) r (now (table .exit)) ⌝ }
 {
-    let bad = is_bad_size(t);
+    let bad = is_bad_size(table);
     if bad {
         return BAD_SIZE;
     }
-    let right = has_contents(image);
+    let right = has_contents(FORM, image);
     if !right {
         return MALFORMED;
     }
-    let n = count_words(image);
-    let room = t.len();
-    if room < n {
-        return overfull_refusal(image);
+    let count = count_words(FORM, image);
+    let room = table.len();
+    if room < count {
+        return overfull_refusal(FORM, image);
     }
     let mut work: [Word; MOST] = [0; MOST];
-    read_through(t, &mut work[..room], image)
+    read_through(table, &mut work[..room], image)
 }

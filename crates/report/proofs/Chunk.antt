@@ -12,10 +12,10 @@ use Rattle.rdfs.specs.Words.{facts, fresh}
 use Rattle.rdfs.specs.Demands.{needs}
 use Rattle.rdfs.specs.Clashes.{bars, unequal, existsFor, consistent?}
 use Rattle.rdfs.specs.Register.{cut, Table}
-use Rattle.rdfs.proofs.Cut.{cut-length}
-use Rattle.rdfs.proofs.Decision.{check-sound}
+use Rattle.rdfs.proofs.register.Cut.{cut-length}
+use Rattle.rdfs.proofs.consistency.Decision.{check-sound}
 use Rattle.table_calls.specs.Calls.{freshWords}
-use Rattle.report.specs.Text.{Printed}
+use Rattle.report.specs.Lines.{Printed}
 use Rattle.report.specs.Turns.{start, Runs, Lent, Shows, Sized}
 use Rattle.report.specs.declared.turns.Turned.the-variants.{More, Last}
 
@@ -59,5 +59,5 @@ pub made-fresh : (t : List ℕ) {v : List ℕ} → length t ≡ product .most �
 made-fresh t e h = h ∙ ap (λ n. cond (leb n 0 || ltb (product .most) n) t (fresh product n)) e
 
 -- What is lent to the whole program, once the table is fresh.
-pub lent-fresh : {w bytes out : List ℕ} (n : ℕ) → w ≡ start → Sized n (length bytes) (length out) → Lent w bytes out
-lent-fresh n e s = record { table = subst (Table product) (sym e) fresh-table; whole = s .whole; room = s .room }
+pub lent-fresh : {w bytes out : List ℕ} → w ≡ start → Sized (length bytes) (length out) → Lent w bytes out
+lent-fresh e s = record { table = subst (Table product) (sym e) fresh-table; sized = s }

@@ -8,21 +8,19 @@ use lib.ListN.{length, take}
 use lib.Seq.{length-take-le}
 use Rattle.rdfs.specs.Numbers.{product, recordLength}
 use Rattle.rdfs.specs.Register.{cut, Table}
-use Rattle.rdfs.proofs.AfterEach.{run-table}
+use Rattle.rdfs.proofs.register.AfterEach.{run-table}
 use Rattle.rdfs.proofs.Theorems.{product-sound}
-use Rattle.report.specs.Turns.{Turn, Runs, FullTurns, Lent, Shows, Ran}
+use Rattle.report.specs.Turns.{Turn, Runs, FullTurns, Sized, Lent, Shows, Ran}
 use Rattle.report.specs.declared.turns.Turned.{Turned}
 use Rattle.report.specs.declared.turns.Turned.the-variants.{More, Last}
-use Rattle.report.proofs.Joined.{fulls-more}
+use Rattle.report.proofs.WholeInput.{fulls-more}
 
 -- What is lent stays so while the table is consistent and the lengths stay.
 pub lent-kept : {w bytes out v chunk text : List ℕ} → Lent w bytes out → Table product v → length chunk ≡ length bytes
     → length text ≡ length out → Lent v chunk text
 lent-kept {bytes = bytes} {text = text} l t b o = record {
   table = t;
-  whole = ap (λ n. n % recordLength) b ∙ l .whole;
-  room = subst (λ n. 18 * (n / recordLength + 1) ≤ length text) (sym b)
-      (subst (λ n. 18 * (length bytes / recordLength + 1) ≤ n) (sym o) (l .room));
+  sized = subst (λ n. Sized n (length text)) (sym b) (subst (Sized (length bytes)) (sym o) (l .sized));
 }
 
 -- Full turns have led from the words `start` to w; what is lent is as at the start but for its contents.

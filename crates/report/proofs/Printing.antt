@@ -6,14 +6,12 @@ use native.Mathlib.Omega.{arith}
 use lib.ListN.{length, take, drop, length-append}
 use Rattle.rdfs.specs.Numbers.{product, recordLength}
 use Rattle.rdfs.specs.Register.{Answer, step, run, cut, Table}
-use Rattle.rdfs.proofs.AfterEach.{run-table}
-use Rattle.rdfs.proofs.Theorems.{product-sound}
 use Rattle.ticket.specs.Answered.{Answered}
-use Rattle.ticket.specs.declared.Applied.{Applied}
-use Rattle.list_form.proofs.Runs.{more-words, run-words}
+use Rattle.ticket.specs.declared.answer.Applied.{Applied}
+use Rattle.list_form.proofs.Runs.{register-keeps, left-length, left-table, left-more}
 use Rattle.list_form.proofs.CutOff.{cut-from, cut-end}
 use Rattle.text.specs.Text.{Puts}
-use Rattle.report.specs.Text.{Line, Lines, Printed}
+use Rattle.report.specs.Lines.{Line, Lines, Printed}
 
 line-same : {x y z u v w : ℕ} (text : List ℕ) → x ≡ u → y ≡ v → z ≡ w → Line x y z text → Line u v w text
 line-same {x} {y} {z} {u} {v} {w} text a b c l =
@@ -58,14 +56,17 @@ module _ (start : List ℕ) (all : List (List ℕ)) where
     printing-room h = omega (arith, h, q .short, ap length (q .tickets), length-append (q .before) left)
 
     pub printing-words : length w ≡ length start
-    printing-words = ap length (q .words) ∙ run-words product (q .before) start
+    unfolding run
+    printing-words = left-length (step product) start (q .before) (q .words) register-keeps
 
     pub printing-table : Table product start → Table product w
-    printing-table t = subst (Table product) (sym (q .words)) (run-table product product-sound (q .before) start t)
+    unfolding run
+    printing-table = left-table (step product) start (q .before) (q .words) register-keeps
 
   pub printing-more : {t : List ℕ} {left : List (List ℕ)} {at r : ℕ} {w v out new : List ℕ} {a : Applied}
       → Printing start all (t ∷ left) at w out → Answered a v (step product w t)
       → (r ≤ at + 18) × Puts (Line (a .answer) (a .added) (a .removed)) at r out new → Printing start all left r v new
+  unfolding run
   printing-more {t} {left} {at} {r} {w} {v} {out} {new} {a} q h (short, p) =
       let s : Answer = step product (run product start (q .before) .table) t in
       let same : step product w t ≡ s = ap (λ u. step product u t) (q .words) in
@@ -75,7 +76,7 @@ module _ (start : List ℕ) (all : List (List ℕ)) where
       record {
         before = q .before ++ (t ∷ []);
         tickets = q .tickets ∙ sym (append-assoc (q .before) (t ∷ []) left);
-        words = h .words ∙ (ap (λ e. e .table) same ∙ sym (more-words product (q .before) t start));
+        words = left-more (step product) start (q .before) (q .words) t (h .words);
         lines = subst (Lines start (q .before ++ (t ∷ []))) (sym (p .there)) (lines-more (q .before) start t (take at out)
             (p .text) (q .lines) line);
         short = omega (arith, short, q .short, length-append (q .before) (t ∷ []));

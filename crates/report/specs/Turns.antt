@@ -9,7 +9,7 @@ use Rattle.rdfs.specs.Lists.{concatMap}
 use Rattle.rdfs.specs.Words.{filled, fresh}
 use Rattle.rdfs.specs.Register.{run, cut, Table}
 use Rattle.text.specs.Text.{Number}
-use Rattle.report.specs.Text.{Lines}
+use Rattle.report.specs.Lines.{Lines}
 use Rattle.report.specs.declared.turns.Turned.{Turned}
 use Rattle.report.specs.declared.turns.Turned.the-variants.{More, Last, Failed}
 
@@ -56,12 +56,16 @@ readBy full last = concatMap (λ t. t .read) full ++ last .read
 abbrev pub writtenBy : List Turn → Turn → List ℕ
 writtenBy full last = concatMap (λ t. t .text) full ++ last .text
 
--- What is lent to a turn: a consistent table, a chunk of whole tickets, and room for a line of 18 bytes for
--- each.
+-- The length of a chunk, which holds whole tickets, and of the text's buffer, which has room for a line of 18
+-- bytes for each.
+pub record Sized (chunk out : ℕ) : Type 0 where
+  pub whole : chunk % recordLength ≡ 0
+  pub room : 18 * (chunk / recordLength + 1) ≤ out
+
+-- What is lent to a turn: a consistent table, a chunk and room for its lines.
 pub record Lent (words bytes out : List ℕ) : Type 0 where
   pub table : Table product words
-  pub whole : length bytes % recordLength ≡ 0
-  pub room : 18 * (length bytes / recordLength + 1) ≤ length out
+  pub sized : Sized (length bytes) (length out)
 
 -- What a turn shows of itself in the chunk and in the text's buffer, by its answer. A turn that failed is the
 -- end.
@@ -83,13 +87,6 @@ pub record Complete (size : ℕ) (v count : List ℕ) : Type 0 where
   pub last : Turn
   pub turns : AllTurns size start v full last
   pub output : Output (readBy full last) (writtenBy full last ++ count)
-
--- What is lent to the whole program, by the lengths: a table of the most words, and a chunk and room as
--- above.
-pub record Sized (words chunk out : ℕ) : Type 0 where
-  pub most : words ≡ product .most
-  pub whole : chunk % recordLength ≡ 0
-  pub room : 18 * (chunk / recordLength + 1) ≤ out
 
 -- By the length r of the count's line, which stands at the start of `out`: 0 if the run is not whole.
 abbrev pub Finishes : ℕ → ℕ → List ℕ → List ℕ → Type 0

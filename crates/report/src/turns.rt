@@ -19,40 +19,41 @@ pub enum Turned {
 }
 
 // Runs the tickets of the first n bytes of a chunk and writes their lines.
-fn run_tickets(table: &mut [Word], bytes: &[u8], n: usize, out: &mut [u8]) -> Turned
-    requires { ⌜ Lent (now table) (now bytes) (now out) × (n ≤ length (now bytes)) ⌝ }
-    ensures { λ r. ⌜ Shows r (now (table .entry)) (now (bytes .entry)) (now (table .exit))
+fn run_tickets(table: &mut [Word], bytes: &[u8], count: usize, out: &mut [u8]) -> Turned
+    requires lent { ⌜ Lent (now table) (now bytes) (now out) ⌝ }
+    requires bytes { ⌜ count ≤ length (now bytes) ⌝ }
+    ensures turn { λ r. ⌜ Shows r (now (table .entry)) (now (bytes .entry)) (now (table .exit))
         (now (out .exit)) ⌝ }
 {
-    let k = put_lines(table, &bytes[..n], out);
-    let written = write_output(b"apply_tickets", &out[..k]);
+    let length = put_lines(table, &bytes[..count], out);
+    let written = write_output(b"apply_tickets", &out[..length]);
     if written {
-        if n == bytes.len() {
+        if count == bytes.len() {
             return Turned::More;
         }
-        return Turned::Last(n);
+        return Turned::Last(count);
     }
     Turned::Failed
 }
 
 // Reads a chunk, runs its tickets and writes their lines. If the read fails, none of its tickets is run.
 fn run_chunk(table: &mut [Word], bytes: &mut [u8], out: &mut [u8]) -> Turned
-    requires { ⌜ Lent (now table) (now bytes) (now out) ⌝ }
-    ensures { λ r. ⌜ Shows r (now (table .entry)) (now (bytes .exit)) (now (table .exit))
+    requires lent { ⌜ Lent (now table) (now bytes) (now out) ⌝ }
+    ensures turn { λ r. ⌜ Shows r (now (table .entry)) (now (bytes .exit)) (now (table .exit))
         (now (out .exit)) ⌝ }
 {
     let filled = read_input(b"apply_tickets", bytes);
-    let Filled::Read(n) = filled else {
+    let Filled::Read(count) = filled else {
         return Turned::Failed;
     };
-    run_tickets(table, bytes, n, out)
+    run_tickets(table, bytes, count, out)
 }
 
 // Runs the whole input, turn by turn. Whether it came to the end of the input. A loop has to end, and nothing
 // says that the input does: it counts down from a number that no run uses up.
 pub fn run_input(table: &mut [Word], bytes: &mut [u8], out: &mut [u8]) -> bool
-    requires { ⌜ Lent (now table) (now bytes) (now out) ⌝ }
-    ensures { λ r. ⌜ Ran r (length (now (bytes .entry))) (now (table .entry)) (now (table .exit)) ⌝ }
+    requires lent { ⌜ Lent (now table) (now bytes) (now out) ⌝ }
+    ensures turns { λ r. ⌜ Ran r (length (now (bytes .entry))) (now (table .entry)) (now (table .exit)) ⌝ }
 {
     let mut turns = u64::MAX;
     while turns > 0 {

@@ -1,2 +1,2 @@
--- Meeting: for all_meet.
+-- Meeting: for meets.
 mod Meeting

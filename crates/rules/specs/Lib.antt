@@ -1,1 +1,3 @@
 pub mod RuleOf
+pub mod Earlier
+pub mod TestAsks

@@ -2,6 +2,7 @@
 //
 // `meets` serves the check of a table. What the rules before one show is required where its test relies on
 // it. Nothing is written. The crate assumes nothing.
+use each::Test;
 use each::all_meet;
 use spans::all_carried;
 use spans::all_inherited;
@@ -23,8 +24,8 @@ ghost use Rattle.rdfs.specs.Rules.{Meets};
 ghost use Rattle.table.specs.Answers.{Decides};
 ghost use Rattle.spans.specs.Spans.{Indexed};
 ghost use Rattle.spans.specs.Graphs.{graphOf};
-ghost use Rattle.spans.specs.Earlier.{Earlier};
 ghost use Rattle.rules.specs.RuleOf.{ruleOf};
+ghost use Rattle.rules.specs.Earlier.{Earlier};
 
 mod each;
 
@@ -60,39 +61,41 @@ pub enum Rule {
     H4,
 }
 
-// Whether a rule is met. What the rules before it have shown is required where its test relies on it.
-pub fn meets<'a>(t: &'a [Word], s: &'a [u16], rule: Rule) -> bool
-    requires { ⌜ Indexed (now t) (now s) × Earlier (graphOf (now t)) (ruleOf rule) ⌝ }
-    ensures { λ r. ⌜ Decides r (Meets (graphOf (now (t .entry))) (ruleOf rule)) ⌝ }
+// Whether a rule is met: a test for every word of one kind, or a pass of its own. What the rules before it
+// have shown is required where its test relies on it.
+pub fn meets<'a>(table: &'a [Word], index: &'a [u16], rule: Rule) -> bool
+    requires words { ⌜ Indexed (now table) (now index) ⌝ }
+    requires earlier { ⌜ Earlier (graphOf (now table)) (ruleOf rule) ⌝ }
+    ensures answer { λ r. ⌜ Decides r (Meets (graphOf (now (table .entry))) (ruleOf rule)) ⌝ }
 {
     match rule {
-        Rule::R4 => all_meet(t, s, rule, CLASS),
-        Rule::R5 => all_meet(t, s, rule, CLASS),
-        Rule::R6 => all_meet(t, s, rule, PROPERTY),
-        Rule::R7 => all_meet(t, s, rule, SUBCLASS),
-        Rule::R8 => all_meet(t, s, rule, SUBPROPERTY),
-        Rule::R9 => all_meet(t, s, rule, DOMAIN),
-        Rule::R10 => all_meet(t, s, rule, RANGE),
-        Rule::R11 => all_meet(t, s, rule, MEMBER),
-        Rule::R12 => all_meet(t, s, rule, VALUE),
-        Rule::R13 => all_meet(t, s, rule, CLASS),
-        Rule::R14 => all_meet(t, s, rule, INDIVIDUAL),
-        Rule::R15 => all_meet(t, s, rule, PROPERTY),
-        Rule::R16 => all_meet(t, s, rule, DOMAIN),
-        Rule::R17 => all_meet(t, s, rule, RANGE),
-        Rule::R18 => all_carried(t, s, SUBCLASS, SUBCLASS),
-        Rule::R19 => all_meet(t, s, rule, SUBCLASS),
-        Rule::R20 => all_carried(t, s, SUBPROPERTY, SUBPROPERTY),
-        Rule::R21 => all_meet(t, s, rule, SUBPROPERTY),
-        Rule::R22 => all_meet(t, s, rule, SUBPROPERTY),
-        Rule::R23 => all_meet(t, s, rule, SUBPROPERTY),
-        Rule::R24 => all_subjects(t, s),
-        Rule::R25 => all_meet(t, s, rule, VALUE),
-        Rule::R26 => all_carried(t, s, MEMBER, SUBCLASS),
-        Rule::R27 => all_inherited(t, s),
-        Rule::H1 => has_least(t, s, CLASS, RESOURCE),
-        Rule::H2 => all_meet(t, s, rule, LITERAL),
-        Rule::H3 => all_meet(t, s, rule, VALUE),
-        Rule::H4 => all_meet(t, s, rule, SUBPROPERTY),
+        Rule::R4 => all_meet(table, index, CLASS, Test::Lacks(PROPERTY)),
+        Rule::R5 => all_meet(table, index, CLASS, Test::Lacks(INDIVIDUAL)),
+        Rule::R6 => all_meet(table, index, PROPERTY, Test::Lacks(INDIVIDUAL)),
+        Rule::R7 => all_meet(table, index, SUBCLASS, Test::WithClass(CLASS)),
+        Rule::R8 => all_meet(table, index, SUBPROPERTY, Test::AreProperties),
+        Rule::R9 => all_meet(table, index, DOMAIN, Test::WithClass(PROPERTY)),
+        Rule::R10 => all_meet(table, index, RANGE, Test::HasRangeRoles),
+        Rule::R11 => all_meet(table, index, MEMBER, Test::WithClass(INDIVIDUAL)),
+        Rule::R12 => all_meet(table, index, VALUE, Test::HasValueRoles),
+        Rule::R13 => all_meet(table, index, CLASS, Test::IsUnderResource),
+        Rule::R14 => all_meet(table, index, INDIVIDUAL, Test::Has(MEMBER)),
+        Rule::R15 => all_meet(table, index, PROPERTY, Test::HasDomainAndRange),
+        Rule::R16 => all_meet(table, index, DOMAIN, Test::IsOnly(DOMAIN)),
+        Rule::R17 => all_meet(table, index, RANGE, Test::IsOnly(RANGE)),
+        Rule::R18 => all_carried(table, index, SUBCLASS, SUBCLASS),
+        Rule::R19 => all_meet(table, index, SUBCLASS, Test::LacksReverse(SUBCLASS)),
+        Rule::R20 => all_carried(table, index, SUBPROPERTY, SUBPROPERTY),
+        Rule::R21 => all_meet(table, index, SUBPROPERTY, Test::LacksReverse(SUBPROPERTY)),
+        Rule::R22 => all_meet(table, index, SUBPROPERTY, Test::HasLinkedDomains),
+        Rule::R23 => all_meet(table, index, SUBPROPERTY, Test::HasLinkedRanges),
+        Rule::R24 => all_subjects(table, index),
+        Rule::R25 => all_meet(table, index, VALUE, Test::IsObjectMember),
+        Rule::R26 => all_carried(table, index, MEMBER, SUBCLASS),
+        Rule::R27 => all_inherited(table, index),
+        Rule::H1 => has_least(table, index, CLASS, RESOURCE),
+        Rule::H2 => all_meet(table, index, LITERAL, Test::IsLiteralOnly),
+        Rule::H3 => all_meet(table, index, VALUE, Test::IsObjectLiteral),
+        Rule::H4 => all_meet(table, index, SUBPROPERTY, Test::HasLikeRanges),
     }
 }

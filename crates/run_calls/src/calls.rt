@@ -1,5 +1,4 @@
 // The calls, and what is printed of each.
-use crate::command::UNTOUCHED;
 use crate::rule::print_rule;
 use consistency::Visited;
 use consistency::check;
@@ -13,36 +12,39 @@ use script::print_answer;
 use script::print_bytes;
 use script::print_number;
 use script::print_test;
-use script::word_at;
+use script::word_in;
 use singles::apply_each;
 use table::INCONSISTENT;
 use table::Word;
 use table_calls::lookup;
 use ticket::apply;
 
+// What stands in lent bytes before a call.
+pub const UNTOUCHED: u8 = 255;
+
 // The bytes that can be lent for an image.
 const OUTPUT: usize = 8200;
 
 // After a 3 comes the first rule that is broken.
-pub fn print_check(t: &[Word]) {
-    let answer = check(t);
+pub fn print_check(table: &[Word]) {
+    let answer = check(table);
     print_answer(answer);
     if answer == INCONSISTENT {
-        let visited = first_broken(t);
+        let visited = first_broken(table);
         if let Visited::Broken(rule) = visited {
             print_rule(rule);
         }
     }
 }
 
-pub fn print_lookup(t: &[Word], given: &[u8]) {
-    let looked = lookup(t, word_at(given, 0, 0));
+pub fn print_lookup(table: &[Word], given: &[u8]) {
+    let looked = lookup(table, word_in(given, 0, 0));
     print_answer(looked.answer);
     print_test(looked.present);
 }
 
-pub fn print_applied(t: &mut [Word], given: &[u8]) {
-    let applied = apply(t, given);
+pub fn print_applied(table: &mut [Word], given: &[u8]) {
+    let applied = apply(table, given);
     print_answer(applied.answer);
     print_number(applied.added as usize);
     print_number(applied.removed as usize);
@@ -56,28 +58,28 @@ pub fn print_listed(listed: Listed, answers: &[u8]) {
     print_bytes(answers);
 }
 
-pub fn print_list(t: &mut [Word], given: &[u8], answers: &mut [u8]) {
-    let listed = apply_list(t, given, answers);
+pub fn print_list(table: &mut [Word], given: &[u8], answers: &mut [u8]) {
+    let listed = apply_list(table, given, answers);
     print_listed(listed, answers);
 }
 
-pub fn print_each(t: &mut [Word], given: &[u8], answers: &mut [u8]) {
-    let listed = apply_each(t, given, answers);
+pub fn print_each(table: &mut [Word], given: &[u8], answers: &mut [u8]) {
+    let listed = apply_each(table, given, answers);
     print_listed(listed, answers);
 }
 
-fn print_written(t: &[Word], output: &mut [u8]) {
-    let written = write(t, output);
+fn print_written(table: &[Word], output: &mut [u8]) {
+    let written = write(table, output);
     print_answer(written.answer);
     print_number(written.length as usize);
     print_bytes(output);
 }
 
 // Writes into so many bytes.
-pub fn print_write(t: &[Word], room: usize) {
+pub fn print_write(table: &[Word], room: usize) {
     let mut output = [UNTOUCHED; OUTPUT];
-    let n = bytes_in(&output, room);
-    print_written(t, &mut output[..n]);
+    let length = bytes_in(&output, room);
+    print_written(table, &mut output[..length]);
 }
 
 // The body of a kind; a number above 255 is none.

@@ -1,4 +1,5 @@
 // The commands: what each does to the table and to the copy.
+use crate::calls::UNTOUCHED;
 use crate::calls::print_applied;
 use crate::calls::print_body;
 use crate::calls::print_check;
@@ -10,11 +11,11 @@ use crate::damage::print_damage;
 use crate::tickets::print_records;
 use image::read;
 use script::bytes_in;
-use script::copy_words;
+use script::copy_common;
 use script::is_start_of;
 use script::number_in;
 use script::print_answer;
-use script::print_facts;
+use script::print_count;
 use script::print_test;
 use script::print_words;
 use script::put_words;
@@ -56,80 +57,77 @@ const SAME: usize = 15;
 // How many there are.
 pub const NAMES: usize = 17;
 
-// What stands in lent bytes before a call.
-pub const UNTOUCHED: u8 = 255;
-
 // The answer bytes that can be lent.
 const ANSWERS: usize = 2048;
 
 // The table has the words that are given behind their number. The answer is how many.
 fn lay_table(words: &mut [Word], given: &[u8]) -> usize {
-    let m = bytes_in(given, 2);
-    let n = words_in(words, number_in(given));
-    put_words(&mut words[..n], &given[m..]);
-    n
+    let behind = bytes_in(given, 2);
+    let count = words_in(words, number_in(given));
+    put_words(&mut words[..count], &given[behind..]);
+    count
 }
 
 // The calls with a list of tickets.
-fn run_list(name: usize, given: &[u8], t: &mut [Word], answers: &mut [u8]) {
+fn run_list(name: usize, given: &[u8], table: &mut [Word], answers: &mut [u8]) {
     match name {
-        LIST => print_list(t, given, answers),
-        EACH => print_each(t, given, answers),
-        _ => print_records(t, given, answers),
+        LIST => print_list(table, given, answers),
+        EACH => print_each(table, given, answers),
+        _ => print_records(table, given, answers),
     }
 }
 
 // The same with so many answer bytes.
-fn lend_answers(name: usize, number: usize, given: &[u8], t: &mut [Word]) {
+fn lend_answers(name: usize, number: usize, given: &[u8], table: &mut [Word]) {
     let mut answers = [UNTOUCHED; ANSWERS];
-    let n = bytes_in(&answers, number);
-    run_list(name, given, t, &mut answers[..n]);
+    let length = bytes_in(&answers, number);
+    run_list(name, given, table, &mut answers[..length]);
 }
 
 // The calls with a number.
-fn run_numbered(name: usize, number: usize, given: &[u8], t: &mut [Word]) {
+fn run_numbered(name: usize, number: usize, given: &[u8], table: &mut [Word]) {
     match name {
-        WRITE => print_write(t, number),
+        WRITE => print_write(table, number),
         BODY => print_body(number, given),
-        _ => lend_answers(name, number, given, t),
+        _ => lend_answers(name, number, given, table),
     }
 }
 
 // What touches the copy.
-fn run_on_copy(name: usize, given: &mut [u8], t: &mut [Word], kept: &mut [Word]) {
+fn run_on_copy(name: usize, given: &mut [u8], table: &mut [Word], kept: &mut [Word]) {
     match name {
-        KEEP => copy_words(t, kept),
-        BACK => copy_words(kept, t),
-        SAME => print_test(is_start_of(t, kept)),
-        _ => print_damage(given, t, kept),
+        KEEP => copy_common(table, kept),
+        BACK => copy_common(kept, table),
+        SAME => print_test(is_start_of(table, kept)),
+        _ => print_damage(given, table, kept),
     }
 }
 
 // What takes the table alone.
-fn run_on_table(name: usize, given: &[u8], t: &mut [Word]) {
+fn run_on_table(name: usize, given: &[u8], table: &mut [Word]) {
     match name {
-        FRESH => print_answer(fresh(t)),
-        CHECK => print_check(t),
-        LOOKUP => print_lookup(t, given),
-        APPLY => print_applied(t, given),
-        READ => print_answer(read(t, given)),
-        FACTS => print_facts(t),
-        _ => print_words(t),
+        FRESH => print_answer(fresh(table)),
+        CHECK => print_check(table),
+        LOOKUP => print_lookup(table, given),
+        APPLY => print_applied(table, given),
+        READ => print_answer(read(table, given)),
+        FACTS => print_count(table),
+        _ => print_words(table),
     }
 }
 
 // Runs a command on the table.
-fn run_command(name: usize, given: &mut [u8], t: &mut [Word], kept: &mut [Word]) {
+fn run_command(name: usize, given: &mut [u8], table: &mut [Word], kept: &mut [Word]) {
     if name < FRESH {
-        let m = bytes_in(given, 2);
-        run_numbered(name, number_in(given), &given[m..], t);
+        let behind = bytes_in(given, 2);
+        run_numbered(name, number_in(given), &given[behind..], table);
         return;
     }
     if name < KEEP {
-        run_on_table(name, given, t);
+        run_on_table(name, given, table);
         return;
     }
-    run_on_copy(name, given, t, kept);
+    run_on_copy(name, given, table, kept);
 }
 
 // Runs a command with a table of n words. The answer is how many it has then.
@@ -137,13 +135,13 @@ pub fn run(
     name: usize,
     given: &mut [u8],
     words: &mut [Word],
-    n: usize,
+    count: usize,
     kept: &mut [Word],
 ) -> usize {
     if name == TABLE {
         return lay_table(words, given);
     }
-    let k = words_in(words, n);
-    run_command(name, given, &mut words[..k], kept);
-    k
+    let used = words_in(words, count);
+    run_command(name, given, &mut words[..used], kept);
+    used
 }

@@ -4,7 +4,7 @@ use image::LONGEST;
 use image::read;
 use image::write;
 use script::bytes_in;
-use script::copy_words;
+use script::copy_common;
 use script::is_same;
 use script::is_start_of;
 use script::print_number;
@@ -21,17 +21,17 @@ const ELSE: usize = 14;
 const OUTCOMES: usize = 15;
 
 // Whether an image is the one that writing gives for a table.
-fn is_image_of(image: &[u8], t: &[Word]) -> bool {
+fn is_image_of(image: &[u8], table: &[Word]) -> bool {
     let mut output = [0u8; LONGEST];
-    let written = write(t, &mut output);
-    let n = bytes_in(&output, written.length as usize);
-    is_same(&output[..n], image)
+    let written = write(table, &mut output);
+    let length = bytes_in(&output, written.length as usize);
+    is_same(&output[..length], image)
 }
 
 // What comes of an image whose reading answers this; whether it is its table's, and whether the table is as
 // it was.
 fn outcome_of(answer: u8, own: bool, kept: bool) -> usize
-    ensures { λ r. ⌜ r < 15 ⌝ }
+    ensures bound { λ r. ⌜ r < 15 ⌝ }
 {
     if answer == 0 {
         if own {
@@ -48,29 +48,29 @@ fn outcome_of(answer: u8, own: bool, kept: bool) -> usize
 }
 
 // What comes of an image. The table is the copy afterwards.
-fn judge(image: &[u8], t: &mut [Word], kept: &[Word]) -> usize
-    ensures { λ r. ⌜ r < 15 ⌝ }
+fn judge(image: &[u8], table: &mut [Word], kept: &[Word]) -> usize
+    ensures bound { λ r. ⌜ r < 15 ⌝ }
 {
-    let answer = read(t, image);
-    let own = is_image_of(image, t);
-    let same = is_start_of(t, kept);
-    copy_words(kept, t);
+    let answer = read(table, image);
+    let own = is_image_of(image, table);
+    let same = is_start_of(table, kept);
+    copy_common(kept, table);
     outcome_of(answer, own, same)
 }
 
 // One more, as far as the number goes.
-fn one_more(n: usize) -> usize {
-    if n == usize::MAX {
-        return n;
+fn one_more(number: usize) -> usize {
+    if number == usize::MAX {
+        return number;
     }
-    n + 1
+    number + 1
 }
 
 // Counts what comes of the image with each value at a place. The image is as it was afterwards.
 fn count_place(
     image: &mut [u8],
     place: usize,
-    t: &mut [Word],
+    table: &mut [Word],
     kept: &[Word],
     counts: &mut [usize; OUTCOMES],
 ) {
@@ -78,34 +78,39 @@ fn count_place(
         return;
     }
     let old = image[place];
-    let mut x = 0;
-    while x < VALUES {
-        image[place] = x as u8;
-        let k = judge(image, t, kept);
-        counts[k] = one_more(counts[k]);
-        x += 1;
+    let mut value = 0;
+    while value < VALUES {
+        image[place] = value as u8;
+        let outcome = judge(image, table, kept);
+        counts[outcome] = one_more(counts[outcome]);
+        value += 1;
     }
     image[place] = old;
 }
 
 // The same at each place.
-fn count_places(image: &mut [u8], t: &mut [Word], kept: &[Word], counts: &mut [usize; OUTCOMES]) {
-    let n = image.len();
+fn count_places(
+    image: &mut [u8],
+    table: &mut [Word],
+    kept: &[Word],
+    counts: &mut [usize; OUTCOMES],
+) {
+    let end = image.len();
     let mut place = 0;
-    while place < n {
-        count_place(image, place, t, kept, counts);
+    while place < end {
+        count_place(image, place, table, kept, counts);
         place += 1;
     }
 }
 
 // Counts what comes of the image with each value at each place, and prints the counts. The table is the copy
 // afterwards.
-pub fn print_damage(image: &mut [u8], t: &mut [Word], kept: &[Word]) {
+pub fn print_damage(image: &mut [u8], table: &mut [Word], kept: &[Word]) {
     let mut counts = [0usize; OUTCOMES];
-    count_places(image, t, kept, &mut counts);
-    let mut k = 0;
-    while k < OUTCOMES {
-        print_number(counts[k]);
-        k += 1;
+    count_places(image, table, kept, &mut counts);
+    let mut outcome = 0;
+    while outcome < OUTCOMES {
+        print_number(counts[outcome]);
+        outcome += 1;
     }
 }

@@ -48,9 +48,9 @@ const WORDS: usize = MOST + 1;
 // Of standard input the first 65,536 bytes count.
 fn main() {
     let mut text = io::large_buffer();
-    let n = io::read_full(STDIN_FILENO, &mut text);
+    let length = io::read_full(STDIN_FILENO, &mut text);
     let zero: Word = 0;
     let mut words = [zero; WORDS];
     let mut kept = [zero; WORDS];
-    run_lines(&text[..n], &mut words, &mut kept);
+    run_lines(&text[..length], &mut words, &mut kept);
 }

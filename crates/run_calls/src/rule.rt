@@ -40,11 +40,11 @@ fn number_of(rule: Rule) -> usize {
 
 // A rule by its number; H1 to H4 after an H.
 pub fn print_rule(rule: Rule) {
-    let n = number_of(rule);
-    if n <= 27 {
-        print_number(n);
+    let number = number_of(rule);
+    if number <= 27 {
+        print_number(number);
         return;
     }
     print_text(b" H");
-    io::print_decimal(STDOUT_FILENO, (n - 27) as u64);
+    io::print_decimal(STDOUT_FILENO, (number - 27) as u64);
 }

@@ -14,29 +14,29 @@ use ticket_form::Ticket;
 const TICKETS: usize = 5;
 
 // The ticket of the five bytes from place i on.
-fn ticket_at(bytes: &[u8], i: usize) -> Ticket
-    requires { ⌜ i + 5 ≤ length (now bytes) ⌝ }
+fn ticket_at(bytes: &[u8], place: usize) -> Ticket
+    requires room { ⌜ place + 5 ≤ length (now bytes) ⌝ }
 {
     Ticket {
-        operation: bytes[i],
-        kind: bytes[i + 1],
-        a: bytes[i + 2],
-        b: bytes[i + 3],
-        c: bytes[i + 4],
+        operation: bytes[place],
+        kind: bytes[place + 1],
+        a: bytes[place + 2],
+        b: bytes[place + 3],
+        c: bytes[place + 4],
     }
 }
 
 // Runs a list of five tickets by `apply_records`. The array is lent here, so that callers make no reference
 // to structs.
 fn apply_five(table: &mut [Word], tickets: [Ticket; TICKETS], answers: &mut [u8]) -> Listed
-    ensures { λ r. ⌜ ListAnswered r (now (table .exit)) (now (answers .exit))
+    ensures answers { λ r. ⌜ ListAnswered r (now (table .exit)) (now (answers .exit))
         (listing (now (table .entry)) (recordBytes tickets) (now (answers .entry))) ⌝ }
 {
     apply_records(table, &tickets, answers)
 }
 
 // Runs the five tickets of 25 bytes by `apply_records`.
-pub fn print_records(t: &mut [Word], bytes: &[u8], answers: &mut [u8]) {
+pub fn print_records(table: &mut [Word], bytes: &[u8], answers: &mut [u8]) {
     if bytes.len() != TICKETS * RECORD {
         print_text(b" ?");
         return;
@@ -48,6 +48,6 @@ pub fn print_records(t: &mut [Word], bytes: &[u8], answers: &mut [u8]) {
         ticket_at(bytes, 15),
         ticket_at(bytes, 20),
     ];
-    let listed = apply_five(t, tickets, answers);
+    let listed = apply_five(table, tickets, answers);
     print_listed(listed, answers);
 }

@@ -3,51 +3,51 @@ ghost use Rattle.io.specs.Counts.{Counts};
 use table::Word;
 
 // n, or the number of words if that is less.
-pub fn words_in(t: &[Word], n: usize) -> usize
-    ensures { λ r. ⌜ Counts r (now (t .entry)) ⌝ }
+pub fn words_in(table: &[Word], most: usize) -> usize
+    ensures bound { λ r. ⌜ Counts r (now (table .entry)) ⌝ }
 {
-    if t.len() < n {
-        return t.len();
+    if table.len() < most {
+        return table.len();
     }
-    n
+    most
 }
 
 // n, or the number of bytes if that is less.
-pub fn bytes_in(bytes: &[u8], n: usize) -> usize
-    ensures { λ r. ⌜ Counts r (now (bytes .entry)) ⌝ }
+pub fn bytes_in(bytes: &[u8], most: usize) -> usize
+    ensures bound { λ r. ⌜ Counts r (now (bytes .entry)) ⌝ }
 {
-    if bytes.len() < n {
+    if bytes.len() < most {
         return bytes.len();
     }
-    n
+    most
 }
 
 // Whether two runs of bytes are the same.
-pub fn is_same(a: &[u8], b: &[u8]) -> bool {
-    if a.len() != b.len() {
+pub fn is_same(bytes: &[u8], other: &[u8]) -> bool {
+    if bytes.len() != other.len() {
         return false;
     }
-    let mut i = 0;
-    while i < a.len() {
-        if a[i] != b[i] {
+    let mut place = 0;
+    while place < bytes.len() {
+        if bytes[place] != other[place] {
             return false;
         }
-        i += 1;
+        place += 1;
     }
     true
 }
 
 // Whether a table has the words with which the other begins.
-pub fn is_start_of(t: &[Word], other: &[Word]) -> bool {
-    if other.len() < t.len() {
+pub fn is_start_of(table: &[Word], other: &[Word]) -> bool {
+    if other.len() < table.len() {
         return false;
     }
-    let mut i = 0;
-    while i < t.len() {
-        if t[i] != other[i] {
+    let mut place = 0;
+    while place < table.len() {
+        if table[place] != other[place] {
             return false;
         }
-        i += 1;
+        place += 1;
     }
     true
 }

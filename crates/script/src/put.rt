@@ -2,10 +2,10 @@
 ghost use Prim.Native.Nat.{_<_};
 use table::Word;
 
-fn wide(x: u8) -> Word
-    ensures { λ r. ⌜ r < 256 ⌝ }
+fn wide(byte: u8) -> Word
+    ensures bound { λ r. ⌜ r < 256 ⌝ }
 {
-    x as Word
+    byte as Word
 }
 
 // The number of the first two bytes; 0 where there are not so many.
@@ -17,34 +17,34 @@ pub fn number_in(given: &[u8]) -> usize {
 }
 
 // The i-th word of bytes, four to a word, highest first; w beyond them.
-pub fn word_at(given: &[u8], i: usize, w: Word) -> Word {
-    if given.len() / 4 <= i {
-        return w;
+pub fn word_in(given: &[u8], place: usize, beyond: Word) -> Word {
+    if given.len() / 4 <= place {
+        return beyond;
     }
-    let k = 4 * i;
-    ((wide(given[k]) * 256 + wide(given[k + 1])) * 256 + wide(given[k + 2])) * 256
-        + wide(given[k + 3])
+    let from = 4 * place;
+    ((wide(given[from]) * 256 + wide(given[from + 1])) * 256 + wide(given[from + 2])) * 256
+        + wide(given[from + 3])
 }
 
 // The words of bytes, and then the last of them to the end.
-pub fn put_words(t: &mut [Word], given: &[u8]) {
-    let mut i = 0;
-    let mut w = 0;
-    while i < t.len() {
-        w = word_at(given, i, w);
-        t[i] = w;
-        i += 1;
+pub fn put_words(table: &mut [Word], given: &[u8]) {
+    let mut place = 0;
+    let mut word = 0;
+    while place < table.len() {
+        word = word_in(given, place, word);
+        table[place] = word;
+        place += 1;
     }
 }
 
 // Copies words, as far as both go.
-pub fn copy_words(from: &[Word], to: &mut [Word]) {
-    let mut i = 0;
-    while i < from.len() {
-        if i == to.len() {
+pub fn copy_common(from: &[Word], to: &mut [Word]) {
+    let mut place = 0;
+    while place < from.len() {
+        if place == to.len() {
             return;
         }
-        to[i] = from[i];
-        i += 1;
+        to[place] = from[place];
+        place += 1;
     }
 }

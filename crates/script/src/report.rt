@@ -9,9 +9,9 @@ pub fn print_text(text: &[u8]) {
 }
 
 // A number, after a blank.
-pub fn print_number(n: usize) {
+pub fn print_number(number: usize) {
     print_text(b" ");
-    io::print_decimal(STDOUT_FILENO, n as u64);
+    io::print_decimal(STDOUT_FILENO, number as u64);
 }
 
 pub fn print_answer(answer: u8) {
@@ -28,51 +28,51 @@ pub fn print_test(test: bool) {
 }
 
 // A number in hexadecimal, of at least so many digits, after a blank.
-fn print_digits(n: u64, digits: usize) {
+fn print_digits(number: u64, digits: usize) {
     print_text(b" ");
-    io::print_hex(STDOUT_FILENO, n, digits);
+    io::print_hex(STDOUT_FILENO, number, digits);
 }
 
-fn print_byte(x: u8) {
-    print_digits(x as u64, 2);
+fn print_byte(byte: u8) {
+    print_digits(byte as u64, 2);
 }
 
-fn print_word(w: Word) {
-    print_digits(w as u64, 8);
+fn print_word(word: Word) {
+    print_digits(word as u64, 8);
 }
 
 pub fn print_bytes(bytes: &[u8]) {
-    let mut i = 0;
-    while i < bytes.len() {
-        print_byte(bytes[i]);
-        i += 1;
+    let mut place = 0;
+    while place < bytes.len() {
+        print_byte(bytes[place]);
+        place += 1;
     }
 }
 
 // How many words there are up to the last that is not 0.
-fn count_words(t: &[Word]) -> usize
-    ensures { λ r. ⌜ r ≤ length (now (t .entry)) ⌝ }
+fn count_used(table: &[Word]) -> usize
+    ensures bound { λ r. ⌜ r ≤ length (now (table .entry)) ⌝ }
 {
-    let mut n = t.len();
-    while 0 < n {
-        if t[n - 1] != 0 {
-            return n;
+    let mut count = table.len();
+    while 0 < count {
+        if table[count - 1] != 0 {
+            return count;
         }
-        n -= 1;
+        count -= 1;
     }
-    n
+    count
 }
 
-pub fn print_facts(t: &[Word]) {
-    print_number(count_words(t));
+pub fn print_count(table: &[Word]) {
+    print_number(count_used(table));
 }
 
 // The words up to the last that is not 0.
-pub fn print_words(t: &[Word]) {
-    let n = count_words(t);
-    let mut i = 0;
-    while i < n {
-        print_word(t[i]);
-        i += 1;
+pub fn print_words(table: &[Word]) {
+    let count = count_used(table);
+    let mut place = 0;
+    while place < count {
+        print_word(table[place]);
+        place += 1;
     }
 }

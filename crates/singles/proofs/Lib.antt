@@ -1,2 +1,2 @@
--- Tied: the contract in the source is a premise of demand 3.
-pub mod Tied
+-- ApplyEachTied: the contract in the source is a premise of demand 3.
+pub mod ApplyEachTied

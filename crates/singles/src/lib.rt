@@ -12,42 +12,43 @@ use list_form::Listed;
 use list_form::count_tickets;
 use list_form::find_end;
 use list_form::list_refusal;
-use list_form::put_number;
+use list_form::put_answer;
 use list_form::sum_up;
 use table::Word;
 use ticket::apply;
 
-// Runs the tickets in turn, each by a single call on the table that the one before left.
+// Runs the tickets in turn, each by a single call on the table that the one before left. The answer is how
+// many are accepted.
 fn run_each(table: &mut [Word], bytes: &[u8], answers: &mut [u8]) -> usize
-    requires { ⌜ length (cut recordLength (now bytes)) ≤ length (now answers) ⌝ }
-    ensures { λ r. ⌜ AllRun r (now (table .exit)) (now (answers .entry)) (now (answers .exit))
+    requires room { ⌜ length (cut recordLength (now bytes)) ≤ length (now answers) ⌝ }
+    ensures answer { λ r. ⌜ AllRun r (now (table .exit)) (now (answers .entry)) (now (answers .exit))
         (register product (now (table .entry)) (now (bytes .entry))) ⌝ }
 {
-    let mut i = 0;
-    let mut k = 0;
-    let mut ok = 0;
-    while i < bytes.len() {
-        let e = find_end(i, bytes.len());
-        let single = apply(table, &bytes[i..e]);
-        ok = put_number(answers, k, ok, single.answer);
-        k += 1;
-        i = e;
+    let mut from = 0;
+    let mut place = 0;
+    let mut accepted = 0;
+    while from < bytes.len() {
+        let to = find_end(from, bytes.len());
+        let applied = apply(table, &bytes[from..to]);
+        accepted = put_answer(answers, place, accepted, applied.answer);
+        place += 1;
+        from = to;
     }
-    ok
+    accepted
 }
 
 // Runs a list of tickets in turn: each is run by `ticket::apply`, which checks the table again. Each ticket's
 // number goes to its answer byte; bytes beyond the list are as they were. Refused with 1, 2, 3 or 14, the
 // table and the answer bytes are as found.
 pub fn apply_each(table: &mut [Word], bytes: &[u8], answers: &mut [u8]) -> Listed
-    ensures { λ r. ⌜ ListAnswered r (now (table .exit)) (now (answers .exit)) (listing (now (table .entry))
-        (now (bytes .entry)) (now (answers .entry))) ⌝ }
+    ensures answer { λ r. ⌜ ListAnswered r (now (table .exit)) (now (answers .exit))
+        (listing (now (table .entry)) (now (bytes .entry)) (now (answers .entry))) ⌝ }
 {
-    let n = count_tickets(bytes.len());
-    let refusal = list_refusal(table, n, answers.len());
+    let tickets = count_tickets(bytes.len());
+    let refusal = list_refusal(table, tickets, answers.len());
     if refusal != 0 {
         return sum_up(refusal, 0, 0);
     }
-    let ok = run_each(table, bytes, answers);
-    sum_up(refusal, n, ok)
+    let accepted = run_each(table, bytes, answers);
+    sum_up(refusal, tickets, accepted)
 }

@@ -7,9 +7,10 @@ use native.Mathlib.Nat.{eq-or-lt-of-le}
 use native.Mathlib.Omega.{arith}
 use lib.ListN.{length}
 use Rattle.table.specs.Parts.{firstOf, secondOf}
-use Rattle.spans.specs.Spans.{spanOf, at, Has, FactWords, Before, Below, Indexed, SpanStart, Covered}
-use Rattle.spans.specs.Graphs.{Id}
-use Rattle.spans.proofs.Places.{split, span-below, span-seconds, first-id, spans-ascend}
+use Rattle.table.specs.Counted.{Id}
+use Rattle.spans.specs.Spans.{spanOf, at, Has, FactWords, Before, NotPast, Below, Indexed, SpanStart}
+use Rattle.spans.specs.Passes.{Covered}
+use Rattle.spans.proofs.SpanPlaces.{split, span-below, span-seconds, first-id, spans-ascend}
 
 -- A span found by the index.
 module _ {t s : List ℕ} (X : Indexed t s) (j : ℕ) where
@@ -17,7 +18,7 @@ module _ {t s : List ℕ} (X : Indexed t s) (j : ℕ) where
   start-here i q l e = record {
     within = omega arith;
     here = λ h. e;
-    before = λ h k b. X .index .before j k (omega arith);
+    before = λ h k b. X .starts .before j k (omega arith);
     none = λ h. absurd (omega arith);
   }
 
@@ -26,7 +27,7 @@ module _ {t s : List ℕ} (X : Indexed t s) (j : ℕ) where
     within = omega arith;
     here = λ h. absurd (omega arith);
     before = λ h. absurd (omega arith);
-    none = λ h k l e. apart (subst (λ (z : ℕ). (at s z < length t) × (spanOf (at t (at s z)) ≡ z)) e (X .index .start k l));
+    none = λ h k l e. apart (subst (λ (z : ℕ). (at s z < length t) × (spanOf (at t (at s z)) ≡ z)) e (X .starts .start k l));
   }
     where
       apart : (at s j < length t) × (spanOf (at t (at s j)) ≡ j) → ⊥
@@ -68,13 +69,13 @@ pub record Covering (t : List ℕ) (j r base i place : ℕ) : Type 0 where
   pub next : i < length t → spanOf (at t i) ≡ j → Before t place (base + secondOf (at t i))
 
 module _ {t : List ℕ} (F : FactWords t) (j r base : ℕ) where
-  pub covering-none : (place : ℕ) → SpanStart t j r → place ≤ length t → Before t place base → Covering t j r base r place
-  covering-none place S l b = record {
+  pub covering-none : (place : ℕ) → SpanStart t j r → NotPast t place base → Covering t j r base r place
+  covering-none place S N = record {
     start = S;
     started = omega arith;
-    within = l;
+    within = N .within;
     done = λ m h n e. absurd (omega (arith, span-from F j r S m n e .1));
-    next = λ h e k n. omega (arith, b k n);
+    next = λ h e k n. omega (arith, N .before k n);
   }
 
   module _ (i place : ℕ) (C : Covering t j r base i place) where

@@ -7,7 +7,7 @@ use native.Mathlib.Omega.{arith}
 use lib.ListN.{length, set, replicate, length-set}
 use lib.Seq.{getD-set-same, getD-set-other}
 use Rattle.spans.specs.Spans.{spanOf, spanCount, at, FactWords, Index}
-use Rattle.spans.proofs.Places.{compare, span-within, spans-ascend}
+use Rattle.spans.proofs.SpanPlaces.{compare, span-within, spans-ascend}
 
 -- The place of a span is 0, where nothing is entered, or one of its words.
 abbrev Own : List ℕ → List ℕ → ℕ → Type 0

@@ -5,7 +5,8 @@ use mathlib.Core.List.{List}
 use native.Mathlib.Omega.{arith}
 use Rattle.rdfs.specs.Rules.{Meets, r27}
 use Rattle.table.specs.Parts.{firstOf, secondOf, thirdOf, wordOf}
-use Rattle.spans.specs.Spans.{at, FactWords, Before, groupOf, GroupStart}
+use Rattle.spans.specs.Spans.{at, FactWords, Before}
+use Rattle.spans.specs.Passes.{groupOf, GroupStart}
 use Rattle.spans.specs.Graphs.{graphOf, Each, Inherited}
 use Rattle.spans.proofs.Passed.{Passed, passed-more, each-fact, fact-each}
 

@@ -6,10 +6,12 @@ use mathlib.Core.List.{List}
 use native.Mathlib.Nat.{eq-or-lt-of-le}
 use native.Mathlib.Omega.{arith}
 use lib.ListN.{length}
+use Rattle.rdfs.specs.Numbers.{arity}
 use Rattle.table.specs.Parts.{kindOf, firstOf, secondOf, thirdOf, wordOf}
+use Rattle.table.specs.Counted.{Id}
 use Rattle.spans.specs.Spans.{at, FactWords, Below}
-use Rattle.spans.specs.Graphs.{Id, Stands, Each}
-use Rattle.spans.proofs.Places.{split}
+use Rattle.spans.specs.Graphs.{Stands, Each}
+use Rattle.spans.proofs.SpanPlaces.{split}
 
 -- The places from i up to `end` have the words of kind k that are left; those before i have ids with Q.
 pub record Passed (t : List ℕ) (k : ℕ) (Q : ℕ → ℕ → ℕ → Type 0) (end i : ℕ) : Type 0 where
@@ -65,10 +67,11 @@ module _ {t : List ℕ} (F : FactWords t) (k : ℕ) where
       whole : (w : ℕ) → kindOf w ≡ k → w ≡ wordOf k (firstOf w) (secondOf w) (thirdOf w)
       whole w e = omega arith
 
-  pub fact-each-two : k ≤ 9 → (Q : ℕ → ℕ → Type 0) → ((a b : ℕ) → Stands t k a b 0 → Q a b) → Each t k (λ a b c. Q a b)
+  pub fact-each-two : arity k ≤ 2 → (Q : ℕ → ℕ → Type 0) → ((a b : ℕ) → Stands t k a b 0 → Q a b) → Each t k (λ a b c. Q a b)
   fact-each-two h Q f i l e = fact-each (λ a b c. c ≡ 0 → Q a b) (λ a b c s z. f a b (subst (Stands t k a b) z s)) i l e
-      (F .facts i l .shaped .third (omega arith))
+      (F .facts i l .shaped .third (subst (λ x. arity x ≤ 2) (sym e) h))
 
-  pub fact-each-one : k ≤ 4 → (Q : ℕ → Type 0) → ((a : ℕ) → Stands t k a 0 0 → Q a) → Each t k (λ a b c. Q a)
+  pub fact-each-one : arity k ≤ 1 → (Q : ℕ → Type 0) → ((a : ℕ) → Stands t k a 0 0 → Q a) → Each t k (λ a b c. Q a)
   fact-each-one h Q f i l e = fact-each-two (omega arith) (λ a b. b ≡ 0
-      → Q a) (λ a b s z. f a (subst (λ x. Stands t k a x 0) z s)) i l e (F .facts i l .shaped .second (omega arith))
+      → Q a) (λ a b s z. f a (subst (λ x. Stands t k a x 0) z s)) i l e (F .facts i l .shaped .second
+      (subst (λ x. arity x ≤ 1) (sym e) h))

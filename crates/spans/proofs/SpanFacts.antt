@@ -1,16 +1,20 @@
 -- The facts of one kind and one first id, by the words of their span. Assumes nothing.
 use Prim.Native.Nat.{ℕ, _+_, _≤_, _<_}
-use mathlib.Core.Path.{_≡_, sym, subst, _∙_}
+use mathlib.Core.Path.{_≡_, refl, sym, subst, _∙_}
 use mathlib.Core.Logic.{_⊎_, inl, inr, ⊎-elim}
 use mathlib.Core.Bool.{Bool, true, false}
 use mathlib.Core.List.{List}
 use native.Mathlib.Omega.{arith}
 use lib.ListN.{length}
+use Rattle.rdfs.specs.Numbers.{arity}
 use Rattle.table.specs.Answers.{Decides}
 use Rattle.table.specs.Parts.{kindOf, firstOf, secondOf, thirdOf, wordOf}
-use Rattle.spans.specs.Spans.{spanAt, spanOf, idCount, at, Has, FactWords, Indexed, SpanStart, Covered, groupOf}
-use Rattle.spans.specs.Graphs.{Id, Stands, Inherited, Single, Only}
-use Rattle.spans.proofs.Places.{split, compare, first-id, words-ascend}
+use Rattle.table.specs.Counted.{Id}
+use Rattle.spans.specs.Spans.{spanAt, spanOf, idCount, at, Has, FactWords, Indexed, SpanStart}
+use Rattle.spans.specs.Passes.{Covered, groupOf}
+use Rattle.spans.specs.Sought.{TwoIds}
+use Rattle.spans.specs.Graphs.{Stands, Inherited, Single, Only}
+use Rattle.spans.proofs.SpanPlaces.{split, compare, first-id, words-ascend}
 use Rattle.spans.proofs.Covering.{span-from, span-past}
 
 -- A word of two ids, by its span and its second id.
@@ -26,14 +30,19 @@ span-by w k a z h l e = omega arith
 pub second-by : (w k a z : ℕ) → Id a → Id z → w ≡ wordOf k a z 0 → secondOf w ≡ z
 second-by w k a z h l e = omega arith
 
-module _ {t : List ℕ} (F : FactWords t) (k a : ℕ) (K : k < 10) (A : Id a) where
+module _ {t : List ℕ} (F : FactWords t) (k a : ℕ) (K : TwoIds k) (A : Id a) where
   -- Each word of the span is a fact of its kind and its first id.
   pub span-stands : (i : ℕ) → i < length t → spanOf (at t i) ≡ spanAt k a → Stands t k a (secondOf (at t i)) 0
   span-stands i l e =
       let w = F .facts i l in
       let is-kind = kind-by (at t i) k a A (first-id F i l) e in (
         (A, w .allowed .second, omega arith),
-        (i, l, word-by (at t i) k a A (first-id F i l) e (w .shaped .third (omega (arith, is-kind)))),
+        (
+          i,
+          l,
+          word-by (at t i) k a A (first-id F i l) e (w .shaped .third (subst (λ x. arity x ≤ 2) (sym is-kind)
+              (omega (arith, K .ids)))),
+        ),
       )
 
   -- The words of the span have second ids that differ.
@@ -95,13 +104,13 @@ module _ {t s : List ℕ} (X : Indexed t s) (k a i w : ℕ) (A : Id a) (I : i �
       same = span-by (at t m) k a 0 A (omega arith) e
 
       start : (at s (spanAt k a) < length t) × (spanOf (at t (at s (spanAt k a))) ≡ spanAt k a)
-      start = subst (λ (z : ℕ). (at s z < length t) × (spanOf (at t (at s z)) ≡ z)) same (X .index .start m l)
+      start = subst (λ (z : ℕ). (at s z < length t) × (spanOf (at t (at s z)) ≡ z)) same (X .starts .start m l)
 
       within : i < length t
       within = omega (arith, start .0)
 
       from : i ≤ m
-      from = ⊎-elim (λ h. absurd (omega (arith, same, X .index .before (spanAt k a) m (omega arith)))) (λ h. h) (split m i)
+      from = ⊎-elim (λ h. absurd (omega (arith, same, X .starts .before (spanAt k a) m (omega arith)))) (λ h. h) (split m i)
 
       least : wordOf k a 0 0 ≤ at t i
       least = least-word (at t i) k a A (first-id (X .words) i within) (rw I (start .1))
@@ -126,7 +135,8 @@ module _ (t : List ℕ) (a b c : ℕ) (A : Id a) (B : Id b) (C : Id c) where
       same w f = omega (arith, second-by w 6 c z C q f)
 
   pub inherited-covered : FactWords t → Inherited t a b c → Covered t (spanAt 6 c) (wordOf 10 a b 0)
-  inherited-covered F U i h e = subst (Has t) (omega arith) (U (secondOf (at t i)) (span-stands F 6 c (omega arith) C i h e) .1)
+  inherited-covered F U i h e = subst (Has t) (omega arith)
+      (U (secondOf (at t i)) (span-stands F 6 c (record { kind = omega arith; ids = refl }) C i h e) .1)
 
 -- The one second id of a's facts of a kind.
 module _ {t : List ℕ} {k a r : ℕ} (O : Only t k a r) where

@@ -7,13 +7,19 @@ use native.Mathlib.Nat.{eq-or-lt-of-le}
 use native.Mathlib.Omega.{arith}
 use lib.ListN.{length, set, length-set}
 use Rattle.table.specs.Parts.{secondOf}
+use Rattle.table.specs.Counted.{Id}
 use Rattle.spans.specs.Spans.{idCount, spanAt, spanOf, at, FactWords, SpanStart}
-use Rattle.spans.specs.Graphs.{Id, Stands}
+use Rattle.spans.specs.Sought.{TwoIds}
+use Rattle.spans.specs.Graphs.{Stands}
 use Rattle.spans.specs.Stamps.{InSpan, AllStamped, Stamped}
-use Rattle.spans.proofs.Places.{split}
+use Rattle.spans.proofs.SpanPlaces.{split}
 use Rattle.spans.proofs.Entered.{Stored, stored}
 use Rattle.spans.proofs.Covering.{span-from, span-past}
 use Rattle.spans.proofs.SpanFacts.{span-by, second-by, span-stands}
+
+-- Each second id has a stamp.
+pub id-within : {t : List ℕ} → FactWords t → (i n : ℕ) → i < length t → n ≡ idCount → secondOf (at t i) < n
+id-within F i n l e = omega (arith, e, F .facts i l .allowed .second)
 
 -- The second ids of the words of span j before place i, and no others, have its number; no stamp is higher.
 pub record Stamping (t stamps : List ℕ) (j r i : ℕ) : Type 0 where
@@ -48,7 +54,7 @@ module _ {t : List ℕ} (F : FactWords t) (j r : ℕ) where
     }
       where
         view : (z : ℕ) → Stored stamps (secondOf (at t i)) j z
-        view z = stored stamps (secondOf (at t i)) j z (omega (arith, M .ids))
+        view z = stored stamps (secondOf (at t i)) j z (id-within F i _ l (M .ids))
 
         earlier : (m : ℕ) → m < i + 1 → (secondOf (at t m) ≡ secondOf (at t i) → ⊥) → m < i
         earlier m b p = ⊎-elim (λ q. absurd (p (ap (λ (x : ℕ). secondOf (at t x)) q))) (λ q. q) (eq-or-lt-of-le (omega arith))
@@ -66,7 +72,7 @@ module _ {t : List ℕ} (F : FactWords t) (j r : ℕ) where
     stamping-end h = record { ids = M .ids; most = M .most; all = λ m l e. M .done m (omega arith) l e; only = M .only }
 
 -- The stamps of a span, by its facts.
-module _ {t stamps : List ℕ} (F : FactWords t) (k l a b : ℕ) (K : k < 10) (L : l < 10) (A : Id a) (B : Id b)
+module _ {t stamps : List ℕ} (F : FactWords t) (k l a b : ℕ) (K : TwoIds k) (L : TwoIds l) (A : Id a) (B : Id b)
     (M : Stamped t stamps (spanAt k a)) where
   pub stamped-carried : AllStamped t stamps (spanAt k a) (spanAt l b) → (z : ℕ) → Stands t l b z 0 → Stands t k a z 0
   stamped-carried H z ((p, q, o), (i, h, e)) =

@@ -1,5 +1,6 @@
 pub mod Spans
+pub mod Passes
+pub mod Sought
 pub mod Graphs
 pub mod Stamps
-pub mod Asked
-pub mod Earlier
+pub mod IdTests

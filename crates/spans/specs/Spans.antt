@@ -1,10 +1,10 @@
 -- The words of a table before its zeros, and where each span of them starts. A span is the words of one kind
 -- and one first id.
-use Prim.Native.Nat.{ℕ, suc, _+_, _-_, _*_, _≤_, _<_}
+use Prim.Native.Nat.{ℕ, suc, _+_, _*_, _≤_, _<_}
 use mathlib.Core.Path.{_≡_}
 use mathlib.Core.List.{List}
 use lib.ListN.{length, getD}
-use Rattle.rdfs.specs.Numbers.{product}
+use Rattle.rdfs.specs.Numbers.{product, kindCount}
 use Rattle.table.specs.Parts.{kindOf, firstOf, secondOf, thirdOf, Shaped, Allowed}
 
 -- How many ids there are, and how many spans: kind 0 has none, and keeps a span's number the kind's multiple.
@@ -12,73 +12,71 @@ abbrev pub idCount : ℕ
 idCount = suc (product .top)
 
 abbrev pub spanCount : ℕ
-spanCount = 11 * idCount
+spanCount = suc kindCount * idCount
 
 -- The number of a span, by its kind and first id; a word's span.
 abbrev pub spanAt : ℕ → ℕ → ℕ
 spanAt k a = k * idCount + a
 
 abbrev pub spanOf : ℕ → ℕ
-spanOf w = spanAt (kindOf w) (firstOf w)
+spanOf word = spanAt (kindOf word) (firstOf word)
 
 abbrev pub at : List ℕ → ℕ → ℕ
-at t i = getD t i 0
+at l i = getD l i 0
 
--- w is among the words.
+-- A word is among the words.
 abbrev pub Has : List ℕ → ℕ → Type 0
-Has t w = (i : ℕ) × (i < length t) × (at t i ≡ w)
+Has table word = (i : ℕ) × (i < length table) × (at table i ≡ word)
 
 -- The word of a fact.
-pub record FactWord (w : ℕ) : Type 0 where
-  pub shaped : Shaped (kindOf w) (secondOf w) (thirdOf w)
-  pub allowed : Allowed (product .top) (kindOf w) (firstOf w) (secondOf w) (thirdOf w)
+pub record FactWord (word : ℕ) : Type 0 where
+  pub shaped : Shaped (kindOf word) (secondOf word) (thirdOf word)
+  pub allowed : Allowed (product .top) (kindOf word) (firstOf word) (secondOf word) (thirdOf word)
 
 -- Words of facts, ascending, none twice.
-pub record FactWords (t : List ℕ) : Type 0 where
-  pub ascending : (i j : ℕ) → i < j → j < length t → at t i < at t j
-  pub facts : (i : ℕ) → i < length t → FactWord (at t i)
+pub record FactWords (table : List ℕ) : Type 0 where
+  pub ascending : (i j : ℕ) → i < j → j < length table → at table i < at table j
+  pub facts : (i : ℕ) → i < length table → FactWord (at table i)
 
--- The words before place i are below w.
+-- The words before a place are below a word.
 abbrev pub Before : List ℕ → ℕ → ℕ → Type 0
-Before t i w = (k : ℕ) → k < i → at t k < w
+Before table place word = (i : ℕ) → i < place → at table i < word
 
--- r is the number of words below w.
-pub record Below (t : List ℕ) (w r : ℕ) : Type 0 where
-  pub within : r ≤ length t
-  pub before : Before t r w
-  pub after : (k : ℕ) → r ≤ k → k < length t → w ≤ at t k
+-- A place that is not past that of a word: the words before it are below the word.
+pub record NotPast (table : List ℕ) (place word : ℕ) : Type 0 where
+  pub within : place ≤ length table
+  pub before : Before table place word
 
--- s has a place for each span: no word of the span stands before it, and one of its words stands there if it
--- has any.
-pub record Index (t s : List ℕ) : Type 0 where
-  pub spans : length s ≡ spanCount
-  pub within : (j : ℕ) → at s j ≤ length t
-  pub before : (j k : ℕ) → k < at s j → spanOf (at t k) < j
-  pub start : (i : ℕ) → i < length t → (at s (spanOf (at t i)) < length t)
-      × (spanOf (at t (at s (spanOf (at t i)))) ≡ spanOf (at t i))
+-- The place is the number of words below a word.
+pub record Below (table : List ℕ) (word place : ℕ) : Type 0 where
+  pub within : place ≤ length table
+  pub before : Before table place word
+  pub after : (i : ℕ) → place ≤ i → i < length table → word ≤ at table i
+
+-- The index has a place for each span: no word of the span stands before it, and one of its words stands
+-- there if it has any.
+pub record Index (table index : List ℕ) : Type 0 where
+  pub spans : length index ≡ spanCount
+  pub within : (span : ℕ) → at index span ≤ length table
+  pub before : (span i : ℕ) → i < at index span → spanOf (at table i) < span
+  pub start : (i : ℕ) → i < length table → (at index (spanOf (at table i)) < length table)
+      × (spanOf (at table (at index (spanOf (at table i)))) ≡ spanOf (at table i))
+
+-- What an index is filled from: words of facts, no more than an index can count, and an index of zeros.
+pub record Fillable (table index : List ℕ) : Type 0 where
+  pub words : FactWords table
+  pub few : length table ≤ 65536
+  pub spans : length index ≡ spanCount
+  pub zeros : (span : ℕ) → at index span ≡ 0
 
 -- The words of a table with the index of their spans.
-pub record Indexed (t s : List ℕ) : Type 0 where
-  pub words : FactWords t
-  pub index : Index t s
+pub record Indexed (table index : List ℕ) : Type 0 where
+  pub words : FactWords table
+  pub starts : Index table index
 
--- r is the place of the first word of the span j, or the number of words if the span has none.
-pub record SpanStart (t : List ℕ) (j r : ℕ) : Type 0 where
-  pub within : r ≤ length t
-  pub here : r < length t → spanOf (at t r) ≡ j
-  pub before : r < length t → (k : ℕ) → k < r → spanOf (at t k) < j
-  pub none : length t ≤ r → (k : ℕ) → k < length t → spanOf (at t k) ≡ j → ⊥
-
--- The second id of each word of the span j, upon a base, is among the words.
-abbrev pub Covered : List ℕ → ℕ → ℕ → Type 0
-Covered t j base = (i : ℕ) → i < length t → spanOf (at t i) ≡ j → Has t (base + secondOf (at t i))
-
--- The word with 0 as its third id.
-abbrev pub groupOf : ℕ → ℕ
-groupOf w = w - thirdOf w
-
--- g is the place of the first word that has the kind and the first two ids of the word at place i.
-pub record GroupStart (t : List ℕ) (i g : ℕ) : Type 0 where
-  pub within : g ≤ i
-  pub same : groupOf (at t g) ≡ groupOf (at t i)
-  pub before : Before t g (groupOf (at t i))
+-- The place is that of the first word of a span, or the number of words if the span has none.
+pub record SpanStart (table : List ℕ) (span place : ℕ) : Type 0 where
+  pub within : place ≤ length table
+  pub here : place < length table → spanOf (at table place) ≡ span
+  pub before : place < length table → (i : ℕ) → i < place → spanOf (at table i) < span
+  pub none : length table ≤ place → (i : ℕ) → i < length table → spanOf (at table i) ≡ span → ⊥

@@ -5,108 +5,113 @@ use table::BASE;
 use table::Word;
 use table::second_of;
 ghost use mathlib.Core.Path.{_≡_};
-ghost use Prim.Native.Nat.{_+_, _-_, _≤_, _<_};
+ghost use Prim.Native.Nat.{_<_};
 ghost use lib.ListN.{length};
-ghost use Rattle.rdfs.specs.Numbers.{product};
-ghost use Rattle.table.specs.Parts.{kindOf, firstOf, wordOf};
+ghost use Rattle.table.specs.Parts.{kindOf, firstOf};
 ghost use Rattle.table.specs.Answers.{Decides};
-ghost use Rattle.spans.specs.Spans.{at, Has, FactWords, Before, Below, Indexed, Covered};
-ghost use Rattle.spans.specs.Spans.{spanCount, groupOf, GroupStart};
-ghost use Rattle.spans.specs.Graphs.{Id};
+ghost use Rattle.spans.specs.Spans.{at, Has, FactWords, NotPast, Below};
+ghost use Rattle.spans.specs.Passes.{Covered, Coverable, GroupStart, GroupSoFar};
+ghost use Rattle.spans.specs.Sought.{Kind, Sought};
 
-// How many words are below w. Every check looks for the same bounds of kinds, whose branches are predicted: a
-// plain halving is the fastest.
-pub fn place_of(t: &[Word], w: Word) -> usize
-    requires { ⌜ FactWords (now t) ⌝ }
-    ensures { λ r. ⌜ Below (now (t .entry)) w r ⌝ }
+// How many words are below the word. Every check looks for the same bounds of kinds, whose branches are
+// predicted: a plain halving is the fastest.
+pub fn place_of(table: &[Word], word: Word) -> usize
+    requires words { ⌜ FactWords (now table) ⌝ }
+    ensures answer { λ r. ⌜ Below (now (table .entry)) word r ⌝ }
 {
-    let mut lo = 0;
-    let mut hi = t.len();
-    while lo < hi {
-        let mid = lo + (hi - lo) / 2;
-        if t[mid] < w {
-            lo = mid + 1;
+    let mut from = 0;
+    let mut to = table.len();
+    while from < to {
+        let middle = from + (to - from) / 2;
+        if table[middle] < word {
+            from = middle + 1;
         } else {
-            hi = mid;
+            to = middle;
         }
     }
-    lo
+    from
 }
 
 // The same, going up from a place that is not past it.
-fn place_from(t: &[Word], from: usize, w: Word) -> usize
-    requires { ⌜ FactWords (now t) × (from ≤ length (now t)) × Before (now t) from w ⌝ }
-    ensures { λ r. ⌜ Below (now (t .entry)) w r ⌝ }
+fn place_from(table: &[Word], from: usize, word: Word) -> usize
+    requires words { ⌜ FactWords (now table) ⌝ }
+    requires place { ⌜ NotPast (now table) from word ⌝ }
+    ensures answer { λ r. ⌜ Below (now (table .entry)) word r ⌝ }
 {
-    let mut i = from;
-    while i < t.len() {
-        if w <= t[i] {
-            return i;
+    let mut at = from;
+    while at < table.len() {
+        if word <= table[at] {
+            return at;
         }
-        i += 1;
+        at += 1;
     }
-    i
+    at
 }
 
-// Whether the word at a place, if there is one, is w.
-pub fn is_at(t: &[Word], i: usize, w: Word) -> bool
-    ensures { λ r. ⌜ Decides r ((i < length (now (t .entry))) × (at (now (t .entry)) i ≡ w)) ⌝ }
+// Whether the word at a place, if there is one, is the word.
+pub fn is_at(table: &[Word], place: usize, word: Word) -> bool
+    ensures answer { λ r. ⌜ Decides r ((place < length (now (table .entry)))
+        × (at (now (table .entry)) place ≡ word)) ⌝ }
 {
-    if i < t.len() {
-        if t[i] == w {
+    if place < table.len() {
+        if table[place] == word {
             return true;
         }
     }
     false
 }
 
-// Whether w is among the words: it is looked for in its span.
-pub fn is_among<'a>(t: &'a [Word], s: &'a [u16], w: Word) -> bool
-    requires { ⌜ Indexed (now t) (now s) × (kindOf w < 11) × Id (firstOf w) ⌝ }
-    ensures { λ r. ⌜ Decides r (Has (now (t .entry)) w) ⌝ }
+// Whether the word is among the words: it is looked for in its span.
+pub fn is_among<'a>(table: &'a [Word], index: &'a [u16], word: Word) -> bool
+    requires sought { ⌜ Sought (now table) (now index) (firstOf word) 0 0 ⌝ }
+    requires kind { ⌜ Kind (kindOf word) ⌝ }
+    ensures answer { λ r. ⌜ Decides r (Has (now (table .entry)) word) ⌝ }
 {
-    let i = find_span(t, s, span_of(w));
-    if i < t.len() {
-        let place = place_from(t, i, w);
-        return is_at(t, place, w);
+    let start = find_span(table, index, span_of(word));
+    if start < table.len() {
+        let place = place_from(table, start, word);
+        return is_at(table, place, word);
     }
     false
 }
 
-// Whether each second id of the span j, upon a base, is among the words. Both ascend, so one pass over each
-// is enough. No word from the base on stands before the place `from`.
-pub fn is_covered<'a>(t: &'a [Word], s: &'a [u16], j: usize, from: usize, base: Word) -> bool
-    requires { ⌜ Indexed (now t) (now s) × (j < spanCount) × (from ≤ length (now t))
-        × Before (now t) from base
-        × (base ≤ wordOf 10 (product .top) (product .top) 0) ⌝ }
-    ensures { λ r. ⌜ Decides r (Covered (now (t .entry)) j base) ⌝ }
+// Whether each second id of the span, upon a base, is among the words. Both ascend, so one pass over each is
+// enough. No word from the base on stands before the place `from`.
+pub fn is_covered<'a>(
+    table: &'a [Word],
+    index: &'a [u16],
+    span: usize,
+    from: usize,
+    base: Word,
+) -> bool
+    requires span { ⌜ Coverable (now table) (now index) span from base ⌝ }
+    ensures answer { λ r. ⌜ Decides r (Covered (now (table .entry)) span base) ⌝ }
 {
-    let mut i = find_span(t, s, j);
+    let mut at = find_span(table, index, span);
     let mut place = from;
-    while i < t.len() {
-        let v = t[i];
-        if span_of(v) != j {
+    while at < table.len() {
+        let link = table[at];
+        if span_of(link) != span {
             return true;
         }
-        let w = base + second_of(v);
-        place = place_from(t, place, w);
-        if !is_at(t, place, w) {
+        let word = base + second_of(link);
+        place = place_from(table, place, word);
+        if !is_at(table, place, word) {
             return false;
         }
-        i += 1;
+        at += 1;
     }
     true
 }
 
-// The place of the first word that has the kind and the first two ids of the word at i, if g is that of the
-// word before.
-pub fn group_start(t: &[Word], g: usize, i: usize) -> usize
-    requires { ⌜ FactWords (now t) × (i < length (now t)) × (g ≤ i) × (g < i → GroupStart (now t) (i - 1) g)
-        × (g ≡ i → Before (now t) i (groupOf (at (now t) i))) ⌝ }
-    ensures { λ r. ⌜ GroupStart (now (t .entry)) i r ⌝ }
+// The place of the first word that has the kind and the first two ids of the word at a place, if `group` is
+// that of the word before.
+pub fn group_start(table: &[Word], group: usize, place: usize) -> usize
+    requires group { ⌜ GroupSoFar (now table) place group ⌝ }
+    ensures answer { λ r. ⌜ GroupStart (now (table .entry)) place r ⌝ }
 {
-    if t[g] / BASE == t[i] / BASE {
-        return g;
+    if table[group] / BASE == table[place] / BASE {
+        return group;
     }
-    i
+    place
 }

@@ -8,35 +8,34 @@ use table::MARK;
 use table::RANGE;
 use table::SUBCLASS;
 use table::Word;
-ghost use Rattle.rdfs.specs.Rules.{r15, r22, r23, h4};
 ghost use Rattle.table.specs.Answers.{Decides};
-ghost use Rattle.spans.specs.Spans.{Indexed};
-ghost use Rattle.spans.specs.Graphs.{Id, graphOf};
-ghost use Rattle.spans.specs.Asked.{Asks};
-ghost use Rattle.spans.specs.Earlier.{Earlier};
+ghost use Rattle.spans.specs.Sought.{Sought};
+ghost use Rattle.spans.specs.Graphs.{graphOf, Single};
+ghost use Rattle.spans.specs.IdTests.{DomainAndRange, LinkedDomains, LinkedRanges, LikeRanges};
 
 // Rule 15, for Pr(a): a has a domain and a range.
-pub fn has_domain_and_range<'a>(t: &'a [Word], s: &'a [u16], a: Word) -> bool
-    requires { ⌜ Indexed (now t) (now s) × Id a ⌝ }
-    ensures { λ r. ⌜ Decides r (Asks (graphOf (now (t .entry))) r15 a 0 0) ⌝ }
+pub fn has_domain_and_range<'a>(table: &'a [Word], index: &'a [u16], a: Word) -> bool
+    requires sought { ⌜ Sought (now table) (now index) a 0 0 ⌝ }
+    ensures answer { λ r. ⌜ Decides r (DomainAndRange (graphOf (now (table .entry))) a) ⌝ }
 {
-    if has_some(t, s, DOMAIN, a) {
-        return has_some(t, s, RANGE, a);
+    if has_some(table, index, DOMAIN, a) {
+        return has_some(table, index, RANGE, a);
     }
     false
 }
 
 // Rule 22, for PSub(a,b): the domain of a is that of b or under it.
-pub fn has_linked_domains<'a>(t: &'a [Word], s: &'a [u16], a: Word, b: Word) -> bool
-    requires { ⌜ Indexed (now t) (now s) × (Id a × Id b) × Earlier (graphOf (now t)) r22 ⌝ }
-    ensures { λ r. ⌜ Decides r (Asks (graphOf (now (t .entry))) r22 a b 0) ⌝ }
+pub fn has_linked_domains<'a>(table: &'a [Word], index: &'a [u16], a: Word, b: Word) -> bool
+    requires sought { ⌜ Sought (now table) (now index) a b 0 ⌝ }
+    requires domains { ⌜ Single (now table) 7 ⌝ }
+    ensures answer { λ r. ⌜ Decides r (LinkedDomains (graphOf (now (table .entry))) a b) ⌝ }
 {
-    let z = only_second(t, s, DOMAIN, a);
-    let w = only_second(t, s, DOMAIN, b);
-    if z < IDS {
-        if w < IDS {
-            if z != w {
-                return has_in_span(t, s, SUBCLASS, z, w);
+    let y = only_second(table, index, DOMAIN, a);
+    let z = only_second(table, index, DOMAIN, b);
+    if y < IDS {
+        if z < IDS {
+            if y != z {
+                return has_in_span(table, index, SUBCLASS, y, z);
             }
         }
     }
@@ -44,18 +43,19 @@ pub fn has_linked_domains<'a>(t: &'a [Word], s: &'a [u16], a: Word, b: Word) -> 
 }
 
 // Rule 23, for PSub(a,b): the same for the ranges where neither is the mark.
-pub fn has_linked_ranges<'a>(t: &'a [Word], s: &'a [u16], a: Word, b: Word) -> bool
-    requires { ⌜ Indexed (now t) (now s) × (Id a × Id b) × Earlier (graphOf (now t)) r23 ⌝ }
-    ensures { λ r. ⌜ Decides r (Asks (graphOf (now (t .entry))) r23 a b 0) ⌝ }
+pub fn has_linked_ranges<'a>(table: &'a [Word], index: &'a [u16], a: Word, b: Word) -> bool
+    requires sought { ⌜ Sought (now table) (now index) a b 0 ⌝ }
+    requires ranges { ⌜ Single (now table) 8 ⌝ }
+    ensures answer { λ r. ⌜ Decides r (LinkedRanges (graphOf (now (table .entry))) a b) ⌝ }
 {
-    let z = only_second(t, s, RANGE, a);
-    let w = only_second(t, s, RANGE, b);
-    if z < IDS {
-        if w < IDS {
-            if z != w {
-                if z != MARK {
-                    if w != MARK {
-                        return has_in_span(t, s, SUBCLASS, z, w);
+    let y = only_second(table, index, RANGE, a);
+    let z = only_second(table, index, RANGE, b);
+    if y < IDS {
+        if z < IDS {
+            if y != z {
+                if y != MARK {
+                    if z != MARK {
+                        return has_in_span(table, index, SUBCLASS, y, z);
                     }
                 }
             }
@@ -65,21 +65,22 @@ pub fn has_linked_ranges<'a>(t: &'a [Word], s: &'a [u16], a: Word, b: Word) -> b
 }
 
 // Rule H4, for PSub(a,b): the ranges are both the mark, or neither is.
-pub fn has_like_ranges<'a>(t: &'a [Word], s: &'a [u16], a: Word, b: Word) -> bool
-    requires { ⌜ Indexed (now t) (now s) × (Id a × Id b) × Earlier (graphOf (now t)) h4 ⌝ }
-    ensures { λ r. ⌜ Decides r (Asks (graphOf (now (t .entry))) h4 a b 0) ⌝ }
+pub fn has_like_ranges<'a>(table: &'a [Word], index: &'a [u16], a: Word, b: Word) -> bool
+    requires sought { ⌜ Sought (now table) (now index) a b 0 ⌝ }
+    requires ranges { ⌜ Single (now table) 8 ⌝ }
+    ensures answer { λ r. ⌜ Decides r (LikeRanges (graphOf (now (table .entry))) a b) ⌝ }
 {
-    let z = only_second(t, s, RANGE, a);
-    let w = only_second(t, s, RANGE, b);
-    if z < IDS {
-        if w < IDS {
-            if z == MARK {
-                if w == MARK {
+    let y = only_second(table, index, RANGE, a);
+    let z = only_second(table, index, RANGE, b);
+    if y < IDS {
+        if z < IDS {
+            if y == MARK {
+                if z == MARK {
                     return true;
                 }
                 return false;
             }
-            if w == MARK {
+            if z == MARK {
                 return false;
             }
         }

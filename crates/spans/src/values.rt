@@ -16,68 +16,68 @@ use table::VALUE;
 use table::Word;
 use table::third_of;
 use table::word_of;
-ghost use mathlib.Core.Path.{_≡_};
-ghost use Prim.Native.Nat.{_≤_};
-ghost use lib.ListN.{length};
-ghost use Rattle.rdfs.specs.Rules.{Meets, r25, r27, h3};
+ghost use Rattle.rdfs.specs.Rules.{Meets, r27};
 ghost use Rattle.table.specs.Answers.{Decides};
-ghost use Rattle.table.specs.Parts.{kindOf, firstOf, secondOf, thirdOf};
-ghost use Rattle.spans.specs.Spans.{FactWord, Before, Indexed, groupOf};
-ghost use Rattle.spans.specs.Graphs.{Id, graphOf, Inherited};
-ghost use Rattle.spans.specs.Asked.{Asks};
-ghost use Rattle.spans.specs.Earlier.{Earlier};
+ghost use Rattle.table.specs.Parts.{firstOf, secondOf, thirdOf};
+ghost use Rattle.spans.specs.Spans.{Indexed};
+ghost use Rattle.spans.specs.Passes.{ValueWord};
+ghost use Rattle.spans.specs.Sought.{Sought};
+ghost use Rattle.spans.specs.Graphs.{graphOf, Inherited, Single};
+ghost use Rattle.spans.specs.IdTests.{ObjectMember, ObjectLiteral};
 
 // Rule 25, for PI(a,b,c): b is in the range of c unless that is the mark.
-pub fn is_object_member<'a>(t: &'a [Word], s: &'a [u16], b: Word, c: Word) -> bool
-    requires { ⌜ Indexed (now t) (now s) × (Id b × Id c) × Earlier (graphOf (now t)) r25 ⌝ }
-    ensures { λ r. ⌜ Decides r (Asks (graphOf (now (t .entry))) r25 0 b c) ⌝ }
+pub fn is_object_member<'a>(table: &'a [Word], index: &'a [u16], b: Word, c: Word) -> bool
+    requires sought { ⌜ Sought (now table) (now index) 0 b c ⌝ }
+    requires ranges { ⌜ Single (now table) 8 ⌝ }
+    ensures answer { λ r. ⌜ Decides r (ObjectMember (graphOf (now (table .entry))) b c) ⌝ }
 {
-    let w = only_second(t, s, RANGE, c);
-    if w < IDS {
-        if w != MARK {
-            return has_in_span(t, s, MEMBER, b, w);
+    let z = only_second(table, index, RANGE, c);
+    if z < IDS {
+        if z != MARK {
+            return has_in_span(table, index, MEMBER, b, z);
         }
     }
     true
 }
 
 // Rule H3, for PI(a,b,c): b is a literal if the range of c is the mark.
-pub fn is_object_literal<'a>(t: &'a [Word], s: &'a [u16], b: Word, c: Word) -> bool
-    requires { ⌜ Indexed (now t) (now s) × (Id b × Id c) × Earlier (graphOf (now t)) h3 ⌝ }
-    ensures { λ r. ⌜ Decides r (Asks (graphOf (now (t .entry))) h3 0 b c) ⌝ }
+pub fn is_object_literal<'a>(table: &'a [Word], index: &'a [u16], b: Word, c: Word) -> bool
+    requires sought { ⌜ Sought (now table) (now index) 0 b c ⌝ }
+    requires ranges { ⌜ Single (now table) 8 ⌝ }
+    ensures answer { λ r. ⌜ Decides r (ObjectLiteral (graphOf (now (table .entry))) b c) ⌝ }
 {
-    let w = only_second(t, s, RANGE, c);
-    if w == MARK {
-        return has_least(t, s, LITERAL, b);
+    let z = only_second(table, index, RANGE, c);
+    if z == MARK {
+        return has_least(table, index, LITERAL, b);
     }
     true
 }
 
 // Rule 27, for the word of PI(a,b,c): a has the value b for each property over c. No word of a and b stands
-// before the place g.
-fn is_inherited<'a>(t: &'a [Word], s: &'a [u16], g: usize, w: Word) -> bool
-    requires { ⌜ Indexed (now t) (now s) × FactWord w × (kindOf w ≡ 10) × (g ≤ length (now t))
-        × Before (now t) g (groupOf w) ⌝ }
-    ensures { λ r. ⌜ Decides r (Inherited (now (t .entry)) (firstOf w) (secondOf w) (thirdOf w)) ⌝ }
+// before the place `group`.
+fn is_inherited<'a>(table: &'a [Word], index: &'a [u16], group: usize, word: Word) -> bool
+    requires value { ⌜ ValueWord (now table) (now index) group word ⌝ }
+    ensures answer { λ r. ⌜ Decides r (Inherited (now (table .entry)) (firstOf word) (secondOf word)
+        (thirdOf word)) ⌝ }
 {
-    let c = third_of(w);
-    is_covered(t, s, span_at(SUBPROPERTY, c), g, w - c)
+    let c = third_of(word);
+    is_covered(table, index, span_at(SUBPROPERTY, c), group, word - c)
 }
 
 // Rule 27, for all: the values of one subject and object stand together, and their place is carried along.
-pub fn all_inherited<'a>(t: &'a [Word], s: &'a [u16]) -> bool
-    requires { ⌜ Indexed (now t) (now s) ⌝ }
-    ensures { λ r. ⌜ Decides r (Meets (graphOf (now (t .entry))) r27) ⌝ }
+pub fn all_inherited<'a>(table: &'a [Word], index: &'a [u16]) -> bool
+    requires words { ⌜ Indexed (now table) (now index) ⌝ }
+    ensures answer { λ r. ⌜ Decides r (Meets (graphOf (now (table .entry))) r27) ⌝ }
 {
-    let mut i = place_of(t, word_of(VALUE, 0, 0, 0));
-    let end = place_of(t, word_of(VALUE + 1, 0, 0, 0));
-    let mut g = i;
-    while i < end {
-        g = group_start(t, g, i);
-        if !is_inherited(t, s, g, t[i]) {
+    let mut at = place_of(table, word_of(VALUE, 0, 0, 0));
+    let end = place_of(table, word_of(VALUE + 1, 0, 0, 0));
+    let mut group = at;
+    while at < end {
+        group = group_start(table, group, at);
+        if !is_inherited(table, index, group, table[at]) {
             return false;
         }
-        i += 1;
+        at += 1;
     }
     true
 }

@@ -21,7 +21,7 @@ pub enum Filled {
 // Reads until the buffer is full, the input ends or a read fails. A read that a signal interrupts, or that
 // finds nothing yet on a descriptor that does not wait, has failed: it is not the end of the input.
 fn fill(fd: i32, buffer: &mut [u8]) -> Filled
-    ensures { λ r. ⌜ Within r (length (now (buffer .exit))) ⌝ }
+    ensures bound { λ r. ⌜ Within r (length (now (buffer .exit))) ⌝ }
 {
     let mut done = 0;
     while done < buffer.len() {
@@ -29,11 +29,11 @@ fn fill(fd: i32, buffer: &mut [u8]) -> Filled
         if got == 0 {
             return Filled::Read(done);
         }
-        let n = io::count(got, &buffer[done..]);
-        if n == 0 {
+        let more = io::count(got, &buffer[done..]);
+        if more == 0 {
             return Filled::Failed;
         }
-        done += n;
+        done += more;
     }
     Filled::Read(done)
 }
@@ -41,7 +41,7 @@ fn fill(fd: i32, buffer: &mut [u8]) -> Filled
 // Reads standard input into a buffer. If a read fails, a line on standard error says so, after the program's
 // name.
 pub fn read_input(program: &[u8], buffer: &mut [u8]) -> Filled
-    ensures { λ r. ⌜ Within r (length (now (buffer .exit))) ⌝ }
+    ensures bound { λ r. ⌜ Within r (length (now (buffer .exit))) ⌝ }
 {
     let filled = fill(STDIN_FILENO, buffer);
     if let Filled::Failed = filled {

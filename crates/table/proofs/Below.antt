@@ -10,11 +10,11 @@ use lib.ListN.{length, getD, take}
 use lib.Seq.{length-take-le, getD-take}
 use borrow.Author.Tests.{lt-ltb, le-ltb}
 use Rattle.rdfs.specs.Lists.{_∈_, here, there, Ascending, member}
-use Rattle.rdfs.proofs.Lists.{in-cons, none-in}
-use Rattle.rdfs.proofs.Facts.{tests-member}
+use Rattle.rdfs.proofs.lists.ListLaws.{in-cons, none-in}
+use Rattle.rdfs.proofs.words.FactLaws.{tests-member}
 use Rattle.table.specs.Found.{below, foundAs, found}
 use Rattle.table.specs.declared.search.Found.the-variants.{At, Missing}
-use Rattle.table.proofs.Answers.{is-true, is-false}
+use Rattle.table.proofs.TestAnswers.{is-true, is-false}
 use Rattle.table.proofs.Halving.{Turns, turns}
 use Rattle.table.proofs.Filled.{at-in}
 

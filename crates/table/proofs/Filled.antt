@@ -11,9 +11,9 @@ use lib.Seq.{take-append-seam, getD-append-add}
 use Rattle.rdfs.specs.Numbers.{Numbers}
 use Rattle.rdfs.specs.Lists.{_∈_, here, there, Ascending}
 use Rattle.rdfs.specs.Words.{laidOut, filled}
-use Rattle.rdfs.proofs.Tests.{differ}
-use Rattle.rdfs.proofs.Lists.{in-filter}
-use Rattle.rdfs.proofs.LaidOut.{laid-shape, laid-ascending}
+use Rattle.rdfs.proofs.lists.Tests.{differ}
+use Rattle.rdfs.proofs.lists.ListLaws.{in-filter}
+use Rattle.rdfs.proofs.words.LaidOut.{laid-shape, laid-ascending}
 use Rattle.table.proofs.Halving.{Turns, turns}
 
 pub at-in : (l : List ℕ) (i : ℕ) → i < length l → getD l i 0 ∈ l

@@ -8,12 +8,12 @@ use native.Mathlib.Nat.{mul-zero, mul-one}
 use lib.Dec.{ltb}
 use borrow.Author.Tests.{ltb-true, ltb-false}
 
--- The number is from lo to lo + size, and no place from n on is looked at.
-pub record Between (n number lo size : ℕ) : Type 0 where
+-- The number is from `from` to `from + size`, and no place from n on is looked at.
+pub record Within (n number from size : ℕ) : Type 0 where
   pub some : 0 < size
-  pub within : lo + size ≤ n
-  pub low : lo ≤ number
-  pub high : number ≤ lo + size
+  pub within : from + size ≤ n
+  pub low : from ≤ number
+  pub high : number ≤ from + size
 
 -- The test r of place k: 1 if the number is above k, else 0.
 abbrev pub Turns : ℕ → ℕ → ℕ → Type 0
@@ -27,21 +27,21 @@ turns number k x w r up down e = by (ltb x w) refl e
     by true p e = inl (e, up (ltb-true x w p))
     by false p e = inr (e, down (ltb-false x w p))
 
-module _ {n number lo size : ℕ} (B : Between n number lo size) where
+module _ {n number from size : ℕ} (B : Within n number from size) where
   -- The place is moved on by half, or not at all.
-  pub moved-within : (half r : ℕ) → Turns number (lo + half) r → half * r ≤ half
+  pub moved-within : (half r : ℕ) → Turns number (from + half) r → half * r ≤ half
   moved-within half r (inl t) = omega (arith, ap (λ i. half * i) (t .0) ∙ mul-one half)
   moved-within half r (inr t) = omega (arith, ap (λ i. half * i) (t .0) ∙ mul-zero half)
 
-  pub between-half : (half r : ℕ) → half ≡ size / 2 → 1 < size → Turns number (lo + half) r
-      → Between n number (lo + half * r) (size - half)
-  between-half half r e h (inl t) =
+  pub within-half : (half r : ℕ) → half ≡ size / 2 → 1 < size → Turns number (from + half) r
+      → Within n number (from + half * r) (size - half)
+  within-half half r e h (inl t) =
       let all : half * r ≡ half = ap (λ i. half * i) (t .0) ∙ mul-one half in
       record { some = omega arith; within = omega arith; low = omega (arith, t .1); high = omega arith }
-  between-half half r e h (inr t) =
+  within-half half r e h (inr t) =
       let none : half * r ≡ 0 = ap (λ i. half * i) (t .0) ∙ mul-zero half in
       record { some = omega arith; within = omega arith; low = omega arith; high = omega (arith, t .1) }
 
-  pub between-last : (r : ℕ) → size ≤ 1 → Turns number lo r → lo + r ≡ number
-  between-last r h (inl t) = omega (arith, t .0, t .1)
-  between-last r h (inr t) = omega (arith, t .0, t .1)
+  pub within-last : (r : ℕ) → size ≤ 1 → Turns number from r → from + r ≡ number
+  within-last r h (inl t) = omega (arith, t .0, t .1)
+  within-last r h (inr t) = omega (arith, t .0, t .1)

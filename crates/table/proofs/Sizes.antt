@@ -7,8 +7,8 @@ use native.Mathlib.Omega.{arith}
 use lib.Dec.{leb, ltb, leb→le, le→leb, ltb→lt, lt→ltb}
 use lib.ListN.{length}
 use Rattle.rdfs.specs.Numbers.{Numbers}
-use Rattle.rdfs.specs.Register.{badSize}
-use Rattle.rdfs.proofs.Tests.{Tests, tests-or, tests-as}
+use Rattle.rdfs.specs.Refusals.{badSize}
+use Rattle.rdfs.proofs.lists.Tests.{Tests, tests-or, tests-as}
 
 pub tests-size : (N : Numbers) (t : List ℕ) → Tests (badSize N t) ((length t ≡ 0) ⊎ (N .most < length t))
 tests-size N t = tests-as

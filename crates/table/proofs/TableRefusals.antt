@@ -7,7 +7,7 @@ use native.Mathlib.Omega.{arith}
 use lib.Dec.{T}
 use Rattle.rdfs.specs.Numbers.{product}
 use Rattle.rdfs.specs.Words.{laidOut}
-use Rattle.rdfs.specs.Register.{orElse, badSize, layoutRefusal}
+use Rattle.rdfs.specs.Refusals.{orElse, badSize, layoutRefusal}
 
 -- Refusals 1 and 2 by the tests of a table's size and layout.
 abbrev pub refusal : Bool → Bool → ℕ

@@ -1,21 +1,26 @@
 -- What a search among ascending words answers.
-use Prim.Native.Nat.{ℕ}
+use Prim.Native.Nat.{ℕ, _≤_}
 use mathlib.Core.Bool.{Bool, true, false}
 use mathlib.Core.List.{List}
 use lib.Dec.{ltb}
-use Rattle.rdfs.specs.Lists.{member, count}
+use lib.ListN.{length, take}
+use Rattle.rdfs.specs.Lists.{Ascending, member, count}
 use Rattle.table.specs.declared.search.Found.{Found}
 use Rattle.table.specs.declared.search.Found.the-variants.{At, Missing}
 
--- How many words are below w.
-abbrev pub below : List ℕ → ℕ → ℕ
-below l w = count (λ x. ltb x w) l
+-- The first words of a table ascend: a search among them is possible.
+abbrev pub Searchable : List ℕ → ℕ → Type 0
+Searchable table count = (count ≤ length table) × Ascending (take count table)
 
--- The place of w: as many words stand before it as are below it. If w is not there, it would go to that
+-- How many words are below a word.
+abbrev pub below : List ℕ → ℕ → ℕ
+below words word = count (λ x. ltb x word) words
+
+-- The place of a word: as many words stand before it as are below it. If it is not there, it would go to that
 -- place.
 abbrev pub foundAs : Bool → ℕ → Found
-foundAs true i = At i
-foundAs false i = Missing i
+foundAs true place = At place
+foundAs false place = Missing place
 
 abbrev pub found : List ℕ → ℕ → Found
-found l w = foundAs (member l w) (below l w)
+found words word = foundAs (member words word) (below words word)

@@ -10,10 +10,10 @@ use Rattle.rdfs.specs.Lists.{all}
 use Rattle.rdfs.specs.Words.{laidOut}
 
 abbrev pub zeros : List ℕ → Bool
-zeros l = all (λ x. eqb x 0) l
+zeros words = all (λ x. eqb x 0) words
 
--- The words before place r are facts, ascending: the table is laid out if the others are zeros, and only
+-- The words before a place are facts, ascending: the table is laid out if the others are zeros, and only
 -- then.
-pub record Rising (t : List ℕ) (r : ℕ) : Type 0 where
-  pub within : r ≤ length t
-  pub rest : laidOut product 1 t ≡ zeros (drop r t)
+pub record Rising (table : List ℕ) (place : ℕ) : Type 0 where
+  pub within : place ≤ length table
+  pub rest : laidOut product 1 table ≡ zeros (drop place table)

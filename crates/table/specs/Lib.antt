@@ -4,3 +4,4 @@ pub mod Layout
 pub mod Found
 pub mod Room
 pub mod Counted
+pub mod Storing

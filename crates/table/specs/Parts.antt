@@ -2,20 +2,20 @@
 use Prim.Native.Nat.{ℕ, _+_, _*_, _/_, _%_, _≤_, _<_}
 use mathlib.Core.Path.{_≡_}
 use mathlib.Core.List.{List, [], _∷_, map}
-use Rattle.rdfs.specs.Numbers.{product}
+use Rattle.rdfs.specs.Numbers.{product, arity}
 use Rattle.rdfs.specs.Facts.{cl, pr, ind, lit, csub, psub, dom, rng, ci, pi, kind}
 
 abbrev pub kindOf : ℕ → ℕ
-kindOf w = w / product .base / product .base / product .base
+kindOf word = word / product .base / product .base / product .base
 
 abbrev pub firstOf : ℕ → ℕ
-firstOf w = w / product .base / product .base % product .base
+firstOf word = word / product .base / product .base % product .base
 
 abbrev pub secondOf : ℕ → ℕ
-secondOf w = w / product .base % product .base
+secondOf word = word / product .base % product .base
 
 abbrev pub thirdOf : ℕ → ℕ
-thirdOf w = w % product .base
+thirdOf word = word % product .base
 
 -- kind × base³ + a × base² + b × base + c
 abbrev pub wordOf : ℕ → ℕ → ℕ → ℕ → ℕ
@@ -35,10 +35,9 @@ pub record Digits (k a b c : ℕ) : Type 0 where
 
 -- The number is a kind, and the ids that the kind does not use are 0.
 pub record Shaped (k b c : ℕ) : Type 0 where
-  pub some : 1 ≤ k
-  pub most : k ≤ 10
-  pub second : k ≤ 4 → b ≡ 0
-  pub third : k ≤ 9 → c ≡ 0
+  pub some : 1 ≤ arity k
+  pub second : arity k ≤ 1 → b ≡ 0
+  pub third : arity k ≤ 2 → c ≡ 0
 
 -- Ids up to the highest, id 1 only as b of Rng.
 pub record Allowed (top k a b c : ℕ) : Type 0 where

@@ -3,10 +3,12 @@ use Prim.Native.Nat.{ℕ, suc, _-_}
 use mathlib.Core.List.{List, _∷_, _++_}
 use lib.ListN.{length, take, drop, replicate}
 
--- Of n words, those from place i on go one place up, and w stands at i. What stood at place n is gone.
+-- Of the first words, those from a place on go one place up, and a word stands there. What stood after the
+-- first words is gone.
 abbrev pub putAt : List ℕ → ℕ → ℕ → ℕ → List ℕ
-putAt t n i w = take i t ++ (w ∷ (take (n - i) (drop i t) ++ drop (suc n) t))
+putAt table count place word =
+    take place table ++ (word ∷ (take (count - place) (drop place table) ++ drop (suc count) table))
 
--- Zeros from place k on.
+-- Zeros from a place on.
 abbrev pub clearedFrom : List ℕ → ℕ → List ℕ
-clearedFrom t k = take k t ++ replicate (length t - k) 0
+clearedFrom table from = take from table ++ replicate (length table - from) 0

@@ -1,43 +1,80 @@
-// Room for a word among others, words taken away at the end, and a table copied.
+// Room for a word among others, a word stored at its place, words taken away at the end, and a table copied.
 ghost use mathlib.Core.Path.{_≡_};
 ghost use Prim.Native.Nat.{_≤_, _<_};
+ghost use lib.Dec.{T};
 ghost use lib.ListN.{length};
+ghost use Rattle.rdfs.specs.Numbers.{product};
+ghost use Rattle.rdfs.specs.Words.{isFact};
 ghost use Rattle.table.specs.Room.{putAt, clearedFrom};
+ghost use Rattle.table.specs.Counted.{Counted};
+ghost use Rattle.table.specs.Storing.{StoreMeans};
+use crate::search::Found;
+use crate::search::find;
 use crate::words::Word;
 
-// Moves the words from place i up to place n one place up, and stores w at i.
-pub fn put_at(t: &mut [Word], n: usize, i: usize, w: Word)
-    requires { ⌜ (i ≤ n) × (n < length (now t)) ⌝ }
-    ensures { λ _. ⌜ now (t .exit) ≡ putAt (now (t .entry)) n i w ⌝ }
-{
-    let mut k = n;
-    while i < k {
-        t[k] = t[k - 1];
-        k -= 1;
-    }
-    t[i] = w;
+pub enum Stored {
+    // The word stands in the table already.
+    There,
+    // It has been put in.
+    Added,
+    // It would be one word too many.
+    NoRoom,
 }
 
-// Stores 0 at every place from k on.
-pub fn clear_from(t: &mut [Word], k: usize)
-    requires { ⌜ k ≤ length (now t) ⌝ }
-    ensures { λ _. ⌜ now (t .exit) ≡ clearedFrom (now (t .entry)) k ⌝ }
+// Moves the words from `place` up to `count` one place up, and stores a word at `place`.
+pub fn put_at(table: &mut [Word], count: usize, place: usize, word: Word)
+    requires place { ⌜ place ≤ count ⌝ }
+    requires room { ⌜ count < length (now table) ⌝ }
+    ensures words { λ _. ⌜ now (table .exit) ≡ putAt (now (table .entry)) count place word ⌝ }
 {
-    let mut i = k;
-    while i < t.len() {
-        t[i] = 0;
-        i += 1;
+    let mut at = count;
+    while place < at {
+        table[at] = table[at - 1];
+        at -= 1;
+    }
+    table[place] = word;
+}
+
+// Puts the word of a fact into a table with `count` facts, and nothing that follows.
+pub fn store(table: &mut [Word], count: usize, word: Word) -> Stored
+    requires counted { ⌜ Counted (now table) count ⌝ }
+    requires fact { ⌜ T (isFact product word) ⌝ }
+    ensures words { λ r. ⌜ StoreMeans (now (table .entry)) word (now (table .exit)) r ⌝ }
+{
+    let found = find(table, count, word);
+    match found {
+        Found::At(_) => Stored::There,
+        Found::Missing(place) => {
+            if count < table.len() {
+                put_at(table, count, place, word);
+                Stored::Added
+            } else {
+                Stored::NoRoom
+            }
+        }
+    }
+}
+
+// Stores 0 at every place from `from` on.
+pub fn clear_from(table: &mut [Word], from: usize)
+    requires from { ⌜ from ≤ length (now table) ⌝ }
+    ensures words { λ _. ⌜ now (table .exit) ≡ clearedFrom (now (table .entry)) from ⌝ }
+{
+    let mut place = from;
+    while place < table.len() {
+        table[place] = 0;
+        place += 1;
     }
 }
 
 // Copies every word.
 pub fn copy_words(from: &[Word], to: &mut [Word])
-    requires { ⌜ length (now from) ≡ length (now to) ⌝ }
-    ensures { λ _. ⌜ now (to .exit) ≡ now (from .entry) ⌝ }
+    requires length { ⌜ length (now from) ≡ length (now to) ⌝ }
+    ensures words { λ _. ⌜ now (to .exit) ≡ now (from .entry) ⌝ }
 {
-    let mut i = 0;
-    while i < from.len() {
-        to[i] = from[i];
-        i += 1;
+    let mut place = 0;
+    while place < from.len() {
+        to[place] = from[place];
+        place += 1;
     }
 }

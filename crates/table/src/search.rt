@@ -1,12 +1,11 @@
-// The search among the first n words of a table, where these ascend.
+// The search among the first words of a table, where these ascend.
 ghost use mathlib.Core.Path.{_≡_};
 ghost use Prim.Native.Nat.{_+_, _≤_};
 ghost use lib.ListN.{length, take};
 ghost use Rattle.rdfs.specs.Lists.{Ascending, member};
 ghost use Rattle.rdfs.specs.Facts.{made, has};
-ghost use Rattle.table.specs.Parts.{Shaped};
-ghost use Rattle.table.specs.Found.{below, found};
-ghost use Rattle.table.specs.Counted.{Counted, Id, factsOf};
+ghost use Rattle.table.specs.Found.{below, found, Searchable};
+ghost use Rattle.table.specs.Counted.{Lookup, factsOf};
 use crate::words::Word;
 use crate::words::is_below;
 use crate::words::word_of;
@@ -18,70 +17,71 @@ pub enum Found {
     Missing(usize),
 }
 
-// How many of the first n words are below w, by halving: it is from lo to lo + size.
-pub fn count_below(t: &[Word], n: usize, w: Word) -> usize
-    requires { ⌜ (n ≤ length (now t)) × Ascending (take n (now t)) ⌝ }
-    ensures { λ r. ⌜ r ≡ below (take n (now (t .entry))) w ⌝ }
+// How many of the first `count` words are below a word, by halving: it is from `low` to `low + size`.
+pub fn count_below(table: &[Word], count: usize, word: Word) -> usize
+    requires table { ⌜ Searchable (now table) count ⌝ }
+    ensures answer { λ r. ⌜ r ≡ below (take count (now (table .entry))) word ⌝ }
 {
-    if n == 0 {
+    if count == 0 {
         return 0;
     }
-    let mut lo = 0;
-    let mut size = n;
+    let mut low = 0;
+    let mut size = count;
     while 1 < size {
         let half = size / 2;
-        lo += half * is_below(t[lo + half], w);
+        low += half * is_below(table[low + half], word);
         size -= half;
     }
-    lo + is_below(t[lo], w)
+    low + is_below(table[low], word)
 }
 
-// How many of the first n words are at most c, of which at least i are: a walk up from place i.
-pub fn count_up_to(t: &[Word], n: usize, c: Word, i: usize) -> usize
-    requires { ⌜ (n ≤ length (now t)) × Ascending (take n (now t)) × (i ≤ below (take n (now t)) (c + 1)) ⌝ }
-    ensures { λ r. ⌜ r ≡ below (take n (now (t .entry))) (c + 1) ⌝ }
+// How many of the first `count` words are at most a word, of which at least `from` are: a walk up from there.
+pub fn count_up_to(table: &[Word], count: usize, word: Word, from: usize) -> usize
+    requires table { ⌜ (count ≤ length (now table)) × Ascending (take count (now table))
+        × (from ≤ below (take count (now table)) (word + 1)) ⌝ }
+    ensures answer { λ r. ⌜ r ≡ below (take count (now (table .entry))) (word + 1) ⌝ }
 {
-    let mut k = i;
-    while k < n {
-        if c < t[k] {
-            return k;
+    let mut place = from;
+    while place < count {
+        if word < table[place] {
+            return place;
         }
-        k += 1;
+        place += 1;
     }
-    k
+    place
 }
 
-// Where w stands among the first n words, or where it would go.
-pub fn find(t: &[Word], n: usize, w: Word) -> Found
-    requires { ⌜ (n ≤ length (now t)) × Ascending (take n (now t)) ⌝ }
-    ensures { λ r. ⌜ r ≡ found (take n (now (t .entry))) w ⌝ }
+// Where a word stands among the first `count` words, or where it would go.
+pub fn find(table: &[Word], count: usize, word: Word) -> Found
+    requires table { ⌜ Searchable (now table) count ⌝ }
+    ensures answer { λ r. ⌜ r ≡ found (take count (now (table .entry))) word ⌝ }
 {
-    let i = count_below(t, n, w);
-    if i < n {
-        if t[i] == w {
-            return Found::At(i);
+    let place = count_below(table, count, word);
+    if place < count {
+        if table[place] == word {
+            return Found::At(place);
         }
     }
-    Found::Missing(i)
+    Found::Missing(place)
 }
 
-// Whether w is one of the first n words.
-pub fn has_word(t: &[Word], n: usize, w: Word) -> bool
-    requires { ⌜ (n ≤ length (now t)) × Ascending (take n (now t)) ⌝ }
-    ensures { λ r. ⌜ r ≡ member (take n (now (t .entry))) w ⌝ }
+// Whether a word is one of the first `count` words.
+pub fn has_word(table: &[Word], count: usize, word: Word) -> bool
+    requires table { ⌜ Searchable (now table) count ⌝ }
+    ensures answer { λ r. ⌜ r ≡ member (take count (now (table .entry))) word ⌝ }
 {
-    let f = find(t, n, w);
-    match f {
+    let found = find(table, count, word);
+    match found {
         Found::At(_) => true,
         Found::Missing(_) => false,
     }
 }
 
-// Whether a fact is in a table with n facts.
-pub fn has_fact(t: &[Word], n: usize, k: Word, a: Word, b: Word, c: Word) -> bool
-    requires { ⌜ Counted (now t) n × Shaped k b c × Id a × Id b × Id c ⌝ }
-    ensures { λ r. ⌜ r ≡ has (factsOf (now (t .entry))) (made k a b c) ⌝ }
+// Whether a fact is in a table with `count` facts.
+pub fn has_fact(table: &[Word], count: usize, k: Word, a: Word, b: Word, c: Word) -> bool
+    requires lookup { ⌜ Lookup (now table) count k a b c ⌝ }
+    ensures answer { λ r. ⌜ r ≡ has (factsOf (now (table .entry))) (made k a b c) ⌝ }
 {
-    let w = word_of(k, a, b, c);
-    has_word(t, n, w)
+    let word = word_of(k, a, b, c);
+    has_word(table, count, word)
 }

@@ -25,8 +25,8 @@ pub const TOP: Word = 255;
 pub const BASE: Word = 256;
 // The most words of a table.
 pub const MOST: usize = 2048;
-// How many words there are.
-pub const WORDS: usize = 4294967296;
+// How many words of 32 bits there are.
+const WORDS: usize = 4294967296;
 
 // The id of rdfs:Resource.
 pub const RESOURCE: Word = 0;
@@ -55,6 +55,9 @@ pub const MEMBER: Word = 9;
 
 pub const VALUE: Word = 10;
 
+// How many kinds there are.
+pub const KINDS: Word = 10;
+
 // The numbers that the definitions take as parameters.
 pub struct Limits {
     pub top: Word,
@@ -64,7 +67,7 @@ pub struct Limits {
 
 // The constants are the definitions' numbers.
 pub fn numbers() -> Limits
-    ensures { λ r. ⌜ record { top = r .top; base = r .base; most = r .most } ≡ product ⌝ }
+    ensures answer { λ r. ⌜ record { top = r .top; base = r .base; most = r .most } ≡ product ⌝ }
 {
     Limits {
         top: TOP,
@@ -74,8 +77,8 @@ pub fn numbers() -> Limits
 }
 
 // The constants of the kinds are the definitions' numbers.
-pub fn kind_numbers() -> [Word; 10]
-    ensures { λ r. ⌜ r ≡ kindNumbers ⌝ }
+pub fn kind_numbers() -> [Word; KINDS as usize]
+    ensures answer { λ r. ⌜ r ≡ kindNumbers ⌝ }
 {
     [
         CLASS,
@@ -91,85 +94,84 @@ pub fn kind_numbers() -> [Word; 10]
     ]
 }
 
-// 1 if x is below w, else 0. There is no branch: which way a search turns cannot be predicted.
-pub fn is_below(x: Word, w: Word) -> usize
-    ensures { λ r. ⌜ r ≡ cond (ltb x w) 1 0 ⌝ }
+// An id as a place.
+pub fn place(a: Word) -> usize
+    ensures answer { λ r. ⌜ r ≡ a ⌝ }
 {
-    1 - (x as usize + WORDS - w as usize) / WORDS
+    a as usize
+}
+
+// 1 if a word is below another, else 0: for words of 32 bits. There is no branch, as which way a search turns
+// cannot be predicted; `(word < other) as usize` would be compiled to one.
+pub fn is_below(word: Word, other: Word) -> usize
+    ensures answer { λ r. ⌜ r ≡ cond (ltb word other) 1 0 ⌝ }
+{
+    1 - (word as usize + WORDS - other as usize) / WORDS
 }
 
 // How many ids a fact of kind k has; 0 if k is no kind.
 pub fn arity_of(k: Word) -> Word
-    ensures { λ r. ⌜ r ≡ arity k ⌝ }
+    ensures answer { λ r. ⌜ r ≡ arity k ⌝ }
 {
-    if k == 0 {
-        return 0;
+    match k {
+        CLASS | PROPERTY | INDIVIDUAL | LITERAL => 1,
+        SUBCLASS | SUBPROPERTY | DOMAIN | RANGE | MEMBER => 2,
+        VALUE => 3,
+        _ => 0,
     }
-    if k <= LITERAL {
-        return 1;
-    }
-    if k <= MEMBER {
-        return 2;
-    }
-    if k == VALUE {
-        return 3;
-    }
-    0
 }
 
 // The kind of a word, whatever the word is.
-pub fn kind_of(w: Word) -> Word
-    ensures { λ r. ⌜ r ≡ kindOf w ⌝ }
+pub fn kind_of(word: Word) -> Word
+    ensures answer { λ r. ⌜ r ≡ kindOf word ⌝ }
 {
-    w / BASE / BASE / BASE
+    word / BASE / BASE / BASE
 }
 
 // Its id a.
-pub fn first_of(w: Word) -> Word
-    ensures { λ r. ⌜ r ≡ firstOf w ⌝ }
+pub fn first_of(word: Word) -> Word
+    ensures answer { λ r. ⌜ r ≡ firstOf word ⌝ }
 {
-    w / BASE / BASE % BASE
+    word / BASE / BASE % BASE
 }
 
 // Its id b.
-pub fn second_of(w: Word) -> Word
-    ensures { λ r. ⌜ r ≡ secondOf w ⌝ }
+pub fn second_of(word: Word) -> Word
+    ensures answer { λ r. ⌜ r ≡ secondOf word ⌝ }
 {
-    w / BASE % BASE
+    word / BASE % BASE
 }
 
 // Its id c.
-pub fn third_of(w: Word) -> Word
-    ensures { λ r. ⌜ r ≡ thirdOf w ⌝ }
+pub fn third_of(word: Word) -> Word
+    ensures answer { λ r. ⌜ r ≡ thirdOf word ⌝ }
 {
-    w % BASE
+    word % BASE
 }
 
 // The word of a kind and ids, with 0 for each id that the kind does not use.
 pub fn word_of(k: Word, a: Word, b: Word, c: Word) -> Word
-    requires { ⌜ Digits k a b c ⌝ }
-    ensures { λ r. ⌜ r ≡ wordOf k a b c ⌝ }
+    requires digits { ⌜ Digits k a b c ⌝ }
+    ensures answer { λ r. ⌜ r ≡ wordOf k a b c ⌝ }
 {
     ((k * BASE + a) * BASE + b) * BASE + c
 }
 
 // Whether k is a kind and the ids that it does not use are 0.
 fn is_shaped(k: Word, b: Word, c: Word) -> bool
-    ensures { λ r. ⌜ Decides r (Shaped k b c) ⌝ }
+    ensures answer { λ r. ⌜ Decides r (Shaped k b c) ⌝ }
 {
-    if k == 0 {
+    let ids = arity_of(k);
+    if ids == 0 {
         return false;
     }
-    if VALUE < k {
-        return false;
-    }
-    if k == VALUE {
+    if 2 < ids {
         return true;
     }
     if c != 0 {
         return false;
     }
-    if LITERAL < k {
+    if 1 < ids {
         return true;
     }
     if b != 0 {
@@ -180,7 +182,7 @@ fn is_shaped(k: Word, b: Word, c: Word) -> bool
 
 // Whether the ids are at most the highest, with the mark only as b of Rng.
 fn is_allowed(k: Word, a: Word, b: Word, c: Word) -> bool
-    ensures { λ r. ⌜ Decides r (Allowed (product .top) k a b c) ⌝ }
+    ensures answer { λ r. ⌜ Decides r (Allowed (product .top) k a b c) ⌝ }
 {
     if TOP < a {
         return false;
@@ -207,13 +209,13 @@ fn is_allowed(k: Word, a: Word, b: Word, c: Word) -> bool
 }
 
 // Whether a word is a fact's.
-pub fn is_fact(w: Word) -> bool
-    ensures { λ r. ⌜ r ≡ isFact product w ⌝ }
+pub fn is_fact(word: Word) -> bool
+    ensures answer { λ r. ⌜ r ≡ isFact product word ⌝ }
 {
-    let k = kind_of(w);
-    let a = first_of(w);
-    let b = second_of(w);
-    let c = third_of(w);
+    let k = kind_of(word);
+    let a = first_of(word);
+    let b = second_of(word);
+    let c = third_of(word);
     if is_shaped(k, b, c) {
         return is_allowed(k, a, b, c);
     }

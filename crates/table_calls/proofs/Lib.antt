@@ -1,2 +1,2 @@
--- Calls: for fresh and lookup.
-mod Calls
+-- CallCases: for fresh and lookup.
+mod CallCases

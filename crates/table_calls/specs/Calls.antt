@@ -6,20 +6,21 @@ use lib.ListN.{length}
 use Rattle.rdfs.specs.Numbers.{product}
 use Rattle.rdfs.specs.Lists.{member}
 use Rattle.rdfs.specs.Words.{filled, fresh}
-use Rattle.rdfs.specs.Register.{orElse, badSize, badLayout, layoutRefusal}
+use Rattle.rdfs.specs.Refusals.{orElse, badSize, badLayout, layoutRefusal}
 
 -- Fresh: refusal 1.
 abbrev pub freshAnswer : List ℕ → ℕ
-freshAnswer t = orElse (badSize product t) 1 0
+freshAnswer table = orElse (badSize product table) 1 0
 
 -- Cl(0), then zeros; refused, the words as they were.
 abbrev pub freshWords : List ℕ → List ℕ
-freshWords t = cond (badSize product t) t (fresh product (length t))
+freshWords table = cond (badSize product table) table (fresh product (length table))
 
 -- Lookup: refusals 1, 2.
 abbrev pub lookupAnswer : List ℕ → ℕ
-lookupAnswer t = layoutRefusal product t 0
+lookupAnswer table = layoutRefusal product table 0
 
--- Whether w is among the facts of a table; refused, no.
+-- Whether a word is among the facts of a table; refused, no.
 abbrev pub lookupPresent : List ℕ → ℕ → Bool
-lookupPresent t w = not (badSize product t) && (not (badLayout product t) && member (filled t) w)
+lookupPresent table word =
+    not (badSize product table) && (not (badLayout product table) && member (filled table) word)

@@ -22,32 +22,33 @@ pub struct Looked {
 }
 
 // Makes a table fresh: Cl(0), then zeros. Refused with 1, the words are as they were.
-pub fn fresh(t: &mut [Word]) -> u8
-    ensures { λ r. ⌜ (r ≡ freshAnswer (now (t .entry))) × (now (t .exit) ≡ freshWords (now (t .entry))) ⌝ }
+pub fn fresh(table: &mut [Word]) -> u8
+    ensures answer { λ r. ⌜ r ≡ freshAnswer (now (table .entry)) ⌝ }
+    ensures words { λ _. ⌜ now (table .exit) ≡ freshWords (now (table .entry)) ⌝ }
 {
-    let bad = is_bad_size(t);
+    let bad = is_bad_size(table);
     if bad {
         return BAD_SIZE;
     }
-    t[0] = word_of(CLASS, RESOURCE, 0, 0);
-    clear_from(t, 1);
+    table[0] = word_of(CLASS, RESOURCE, 0, 0);
+    clear_from(table, 1);
     0
 }
 
-// Whether w is among the facts of a table. Refused with 1 or 2, it says no. A word that is no fact, 0 too, is
-// not there.
-pub fn lookup(t: &[Word], w: Word) -> Looked
-    ensures { λ r. ⌜ (r .answer ≡ lookupAnswer (now (t .entry)))
-        × (r .present ≡ lookupPresent (now (t .entry)) w) ⌝ }
+// Whether a word is among the facts of a table. Refused with 1 or 2, it says no. A word that is no fact, 0
+// too, is not there.
+pub fn lookup(table: &[Word], word: Word) -> Looked
+    ensures answer { λ r. ⌜ r .answer ≡ lookupAnswer (now (table .entry)) ⌝ }
+    ensures present { λ r. ⌜ r .present ≡ lookupPresent (now (table .entry)) word ⌝ }
 {
-    let answer = layout_refusal(t);
+    let answer = layout_refusal(table);
     if answer != 0 {
         return Looked {
             answer,
             present: false,
         };
     }
-    let n = count_facts(t);
-    let present = has_word(t, n, w);
+    let count = count_facts(table);
+    let present = has_word(table, count, word);
     Looked { answer, present }
 }

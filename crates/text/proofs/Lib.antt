@@ -1,3 +1,3 @@
--- Put: for put_number and the functions above it. Digit: for digit_of.
-pub mod Put
-pub mod Digit
+-- PutText: for put_number and the functions above it. DigitValues: for digit_of.
+pub mod PutText
+pub mod DigitValues

@@ -15,13 +15,13 @@ use Rattle.rdfs.specs.Tickets.{decoded, inserts, deletes, asked, named, unknown
 use Rattle.rdfs.specs.Lookups.{lookupClash}
 use Rattle.rdfs.specs.Register.{step, Table}
 use Rattle.rdfs.specs.Promises.{Formed, unchanged}
-use Rattle.rdfs.proofs.Sorted.{sort-ascending}
-use Rattle.rdfs.proofs.LaidOut.{laid-ascending, laid-words, laid-fits}
-use Rattle.rdfs.proofs.Counts.{besides-balance}
-use Rattle.rdfs.proofs.Refusals.{new, pass}
-use Rattle.rdfs.proofs.Steps.{table-sane, step-number, accepted-leaves}
-use Rattle.rdfs.proofs.InsertionSteps.{new-is, insertion-grows}
-use Rattle.rdfs.proofs.DeletionSteps as steps
+use Rattle.rdfs.proofs.lists.Sorted.{sort-ascending}
+use Rattle.rdfs.proofs.words.LaidOut.{laid-ascending, laid-words, laid-fits}
+use Rattle.rdfs.proofs.lists.Counts.{besides-balance}
+use Rattle.rdfs.proofs.tickets.TicketRefusals.{new, pass}
+use Rattle.rdfs.proofs.tickets.Steps.{table-sane, step-number, accepted-leaves}
+use Rattle.rdfs.proofs.insertion.InsertionSteps.{new-is, insertion-grows}
+use Rattle.rdfs.proofs.deletion.DeletionSteps as steps
 use Rattle.rdfs.proofs.Theorems.{product-sound}
 use Rattle.ticket.specs.Answered.{Stepped, refusedWith}
 use Rattle.ticket.specs.declared.step.Step.the-variants.{Facts, Refused}

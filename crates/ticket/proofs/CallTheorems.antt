@@ -2,9 +2,8 @@
 -- them is its contract, `ApplyPromise`. Assumes nothing.
 use Prim.Native.Nat.{ℕ}
 use mathlib.Core.Path.{_≡_, sym, ap, subst, _∙_}
-use mathlib.Core.Bool.{Bool, true, false}
 use mathlib.Core.Logic.{inl, inr, ⊎-elim}
-use mathlib.Core.List.{List, [], _∷_}
+use mathlib.Core.List.{List}
 use lib.Dec.{T}
 use lib.ListN.{length}
 use Rattle.rdfs.specs.Numbers.{product}
@@ -13,12 +12,14 @@ use Rattle.rdfs.specs.Facts.{graph, _⊑_}
 use Rattle.rdfs.specs.Consistency.{Smallest, Largest, keeps}
 use Rattle.rdfs.specs.Words.{facts}
 use Rattle.rdfs.specs.Tickets as defs
-use Rattle.rdfs.specs.Register.{orElse, step, Table}
+use Rattle.rdfs.specs.Refusals.{First}
+use Rattle.rdfs.specs.Register.{step, Table}
 use Rattle.rdfs.specs.Promises.{After, Formed, Possible, PossibleUpTo, unchanged}
-use Rattle.rdfs.proofs.Refusals.{passed}
-use Rattle.rdfs.proofs.Steps.{step-number, refused-keeps}
-use Rattle.rdfs.proofs.TicketTests.{known-operation}
-use Rattle.rdfs.proofs.AfterEach.{after}
+use Rattle.rdfs.proofs.tickets.FirstTrue.{first-true}
+use Rattle.rdfs.proofs.tickets.TicketRefusals.{passed}
+use Rattle.rdfs.proofs.tickets.Steps.{step-number, refused-keeps}
+use Rattle.rdfs.proofs.tickets.TicketTests.{known-operation}
+use Rattle.rdfs.proofs.register.AfterEach.{after}
 use Rattle.rdfs.proofs.Theorems.{
   product-sound,
   insertion-is-smallest,
@@ -28,21 +29,13 @@ use Rattle.rdfs.proofs.Theorems.{
   repeat-changes-nothing,
 }
 use Rattle.ticket.specs.Answered.{ApplyPromise}
-use Rattle.ticket.specs.Demand1.{conditions, First, none, here, later, Demand1}
-use Rattle.ticket.specs.declared.Applied.{Applied}
-
--- One link of the chain of refusals.
-link : (t : Bool) (l : List (ℕ × Bool)) (n rest : ℕ) → First l rest → First ((n, t) ∷ l) (orElse t n rest)
-link true l n rest h = here tt
-link false l n rest h = later (λ f. f) h
+use Rattle.ticket.specs.Demand1.{conditions, Demand1}
+use Rattle.ticket.specs.declared.answer.Applied.{Applied}
 
 -- Demand 1: the answer is 0 or the first refusal whose condition holds, and a refusal moves nothing.
 pub demand-1 : (w b v : List ℕ) (r : Applied) → ApplyPromise w b r v → Demand1 w b v r
 demand-1 w b v r a = record {
-  first = subst (First (conditions w b)) (sym (a .number ∙ step-number product w b))
-      (link _ _ 1 _ (link _ _ 2 _ (link _ _ 3 _
-      (link _ _ 4 _ (link _ _ 5 _ (link _ _ 6 _
-      (link _ _ 7 _ (link _ _ 8 _ (link _ _ 9 _ (link _ _ 10 _ (link _ [] 11 0 none)))))))))));
+  first = subst (First (conditions w b)) (sym (a .number ∙ step-number product w b)) (first-true (conditions w b));
   moves-nothing = λ n. let k = refused-keeps product w b (λ e. n (a .number ∙ e)) in
       (a .words ∙ k .table, a .added ∙ k .added, a .removed ∙ k .removed);
 }

@@ -1,8 +1,9 @@
 -- RefusedSteps, AcceptedSteps: the register's step, refused and accepted, for Ways and the calls. Ways: each way through step.
--- Answers: for the calls. CallTheorems: demands 1 and 2 about the call itself. Tied: the contract in the source is their premise.
-pub mod RefusedSteps
-pub mod AcceptedSteps
-pub mod Ways
-pub mod Answers
+-- CallAnswers: for the calls. CallTheorems: demands 1 and 2 about the call itself. ApplyTied: the contract in the source is
+-- their premise.
+mod RefusedSteps
+mod AcceptedSteps
+mod Ways
+mod CallAnswers
 pub mod CallTheorems
-pub mod Tied
+pub mod ApplyTied

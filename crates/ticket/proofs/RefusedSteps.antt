@@ -1,7 +1,6 @@
 -- The register's step where a ticket is refused: the first refusal's number, no counts, the words as they were. Assumes nothing.
 use Prim.Native.Nat.{ℕ, zero, suc, _<_}
 use mathlib.Core.Path.{_≡_, refl, sym, ap, subst, _∙_}
-use mathlib.Core.Bool.{Bool, true, false}
 use mathlib.Core.List.{List}
 use native.Mathlib.Omega.{arith}
 use lib.Dec.{T, eqb, T-not, lt→ltb}
@@ -14,23 +13,25 @@ use Rattle.rdfs.specs.Clashes.{clashes}
 use Rattle.rdfs.specs.Insertion.{insertion}
 use Rattle.rdfs.specs.Tickets.{decoded, inserts, asked, badLength, unknownProperty, clashing}
 use Rattle.rdfs.specs.Lookups.{lookupClash}
-use Rattle.rdfs.specs.Register.{orElse, badSize, badLayout, inconsistent, tableRefusal, tooMany, answer, step, Table}
+use Rattle.rdfs.specs.Refusals.{formTests, here, later, tableRefusal}
+use Rattle.rdfs.specs.Register.{answer, step, Table}
 use Rattle.rdfs.specs.Promises.{Formed}
-use Rattle.rdfs.proofs.Tests.{and-both, both-and}
-use Rattle.rdfs.proofs.TicketTests.{known-kind, uses-known}
-use Rattle.rdfs.proofs.Refusals.{Sane, new, refusal, to-9, pass-link, stop-link, refuse-10}
-use Rattle.rdfs.proofs.Steps.{table-sane, table-allowed, step-number, wrong-length}
-use Rattle.rdfs.proofs.InsertionSteps.{new-is}
+use Rattle.rdfs.proofs.lists.Tests.{and-both, both-and}
+use Rattle.rdfs.proofs.tickets.TicketTests.{known-kind, uses-known}
+use Rattle.rdfs.proofs.tickets.FirstTrue.{pass-link, first-stops}
+use Rattle.rdfs.proofs.tickets.TicketRefusals.{Sane, new, refusal, past-form}
+use Rattle.rdfs.proofs.tickets.Steps.{table-sane, table-passes, table-stops, table-allowed, step-number, wrong-length}
+use Rattle.rdfs.proofs.insertion.InsertionSteps.{new-is}
 use Rattle.rdfs.proofs.Theorems.{product-sound, lookup-clash-is-clash}
-use Rattle.ticket_form.specs.Form.{formRefusal}
+use Rattle.ticket_form.specs.TicketForm.{formRefusal}
+use Rattle.ticket_form.proofs.Formed.{form-passes}
 use Rattle.ticket.specs.Answered.{refusedWith}
-use Rattle.ticket_form.proofs.Formed.{form-passes, form-refused}
 
 answer-refused : (n : ℕ) (w ws : List ℕ) → (n ≡ 0 → ⊥) → answer n w ws ≡ refusedWith n w
 answer-refused zero w ws d = absurd (d refl)
 answer-refused (suc n) w ws d = refl
 
-pub refused-as : (w bytes : List ℕ) (n : ℕ) → refusal product w bytes ≡ n → (n ≡ 0 → ⊥) → step product w bytes ≡ refusedWith n w
+refused-as : (w bytes : List ℕ) (n : ℕ) → refusal product w bytes ≡ n → (n ≡ 0 → ⊥) → step product w bytes ≡ refusedWith n w
 unfolding step
 refused-as w bytes n e d =
     ap (λ m. answer m w (words product (new product w bytes))) e ∙ answer-refused n w (words product (new product w bytes)) d
@@ -38,21 +39,17 @@ refused-as w bytes n e d =
 -- Refusals 1, 2, 3.
 pub table-refused : (w bytes : List ℕ) (n : ℕ) → tableRefusal product w 0 ≡ n → (n ≡ 0 → ⊥)
     → step product w bytes ≡ refusedWith n w
-table-refused w bytes n e d = refused-as w bytes n (go (badSize product w) (badLayout product w) (inconsistent product w) _ e) d
-  where
-    go : (p q r : Bool) (rest : ℕ) → orElse p 1 (orElse q 2 (orElse r 3 0)) ≡ n → orElse p 1 (orElse q 2 (orElse r 3 rest)) ≡ n
-    go true q r rest e = e
-    go false true r rest e = e
-    go false false true rest e = e
-    go false false false rest e = absurd (d (sym e))
+table-refused w bytes n e d = refused-as w bytes n (sym (table-stops product w _ (λ z. d (sym e ∙ z))) ∙ e) d
 
--- A record past refusals 5 to 8.
+-- A record is past refusal 4; past 5 to 8 too, it is formed.
+whole : (bytes : List ℕ) → length bytes ≡ recordLength → T (badLength bytes) → ⊥
+whole bytes l h =
+    T-not (eqb (length bytes) recordLength) h (subst T (sym (eq-eqb (length bytes) recordLength l)) tt)
+
 pub formed-record : (bytes : List ℕ) → length bytes ≡ recordLength → formRefusal (decoded bytes) ≡ 0 → Formed product bytes
 formed-record bytes l e =
     let p = form-passes (decoded bytes) e in
-    let whole : T (badLength bytes) → ⊥ =
-    λ h. T-not (eqb (length bytes) recordLength) h (subst T (sym (eq-eqb (length bytes) recordLength l)) tt) in
-    record { long = whole; operation = p .operation; kind = p .kind; ids = p .ids; free = p .free }
+    record { long = whole bytes l; operation = p .operation; kind = p .kind; ids = p .ids; free = p .free }
 
 module _ (w bytes : List ℕ) (t : Table product w) where
   sane : Sane product w
@@ -63,20 +60,15 @@ module _ (w bytes : List ℕ) (t : Table product w) where
   length-refused h = refused-as w bytes 4 (sym (step-number product w bytes) ∙ wrong-length product w bytes t h) (omega arith)
 
   -- Refusals 5 to 8.
-  pub form-refused-as : (n : ℕ) → length bytes ≡ recordLength → formRefusal (decoded bytes) ≡ n → (n ≡ 0 → ⊥)
+  pub form-refused : (n : ℕ) → length bytes ≡ recordLength → formRefusal (decoded bytes) ≡ n → (n ≡ 0 → ⊥)
       → step product w bytes ≡ refusedWith n w
-  form-refused-as n l e d =
-      let whole : T (badLength bytes) → ⊥ =
-      λ h. T-not (eqb (length bytes) recordLength) h (subst T (sym (eq-eqb (length bytes) recordLength l)) tt) in
-      refused-as w bytes n (pass-link (badSize product w) 1 _ (sane .size) ∙ (pass-link (badLayout product w) 2 _ (sane .layout)
-      ∙ (pass-link (inconsistent product w) 3 _ (sane .rules)
-      ∙ (pass-link (badLength bytes) 4 _ whole ∙ form-refused (decoded bytes) n _ e d)))) d
+  form-refused n l e d = refused-as w bytes n (table-passes product w t _ ∙ (pass-link (badLength bytes) 4 _ (whole bytes l)
+      ∙ (first-stops (formTests product (decoded bytes)) _ (λ z. d (sym e ∙ z)) ∙ e))) d
 
   module _ (f : Formed product bytes) where
     -- Refusal 9.
     pub unknown-refused : T (unknownProperty (facts product w) (decoded bytes)) → step product w bytes ≡ refusedWith 9 w
-    unknown-refused u = refused-as w bytes 9 (to-9 product w bytes sane f
-        ∙ stop-link (unknownProperty (facts product w) (decoded bytes)) 9 _ u) (omega arith)
+    unknown-refused u = refused-as w bytes 9 (past-form product w bytes sane f (here u)) (omega arith)
 
     module _ (i : T (inserts (decoded bytes))) (k : T (unknownProperty (facts product w) (decoded bytes)) → ⊥) where
       abbrev grown : List Fact
@@ -94,20 +86,18 @@ module _ (w bytes : List ℕ) (t : Table product w) where
 
       -- Refusal 10.
       pub clash-refused : T (lookupClash (facts product w) (decoded bytes)) → step product w bytes ≡ refusedWith 10 w
-      clash-refused c = refused-as w bytes 10 (refuse-10 product w bytes sane f k (both-and (inserts (decoded bytes))
-          (clashes (new product w bytes)) i (subst T looked-clash c))) (omega arith)
+      clash-refused c = refused-as w bytes 10 (past-form product w bytes sane f (later k (here (both-and (inserts (decoded bytes))
+          (clashes (new product w bytes)) i (subst T looked-clash c))))) (omega arith)
 
       pub clash-free : (T (lookupClash (facts product w) (decoded bytes)) → ⊥)
           → T (clashing (new product w bytes) (decoded bytes)) → ⊥
       clash-free n h = n (subst T (sym looked-clash) (and-both (inserts (decoded bytes)) (clashes (new product w bytes)) h .1))
 
       -- Refusal 11.
-      pub full-refused : (T (lookupClash (facts product w) (decoded bytes)) → ⊥) → length w < length (words product grown)
+      pub too-many-refused : (T (lookupClash (facts product w) (decoded bytes)) → ⊥) → length w < length (words product grown)
           → step product w bytes ≡ refusedWith 11 w
-      full-refused n h =
+      too-many-refused n h =
           let more : length w < length (words product (new product w bytes)) =
           subst (λ L. length w < length (words product L)) (sym (new-is product product-sound w bytes t i)) h in
-          refused-as w bytes 11 (to-9 product w bytes sane f ∙ (pass-link (unknownProperty (facts product w) (decoded bytes)) 9 _
-          k
-          ∙ (pass-link (clashing (new product w bytes) (decoded bytes)) 10 _ (clash-free n)
-          ∙ stop-link (tooMany product w (new product w bytes)) 11 0 (lt→ltb (length w) _ more)))) (omega arith)
+          refused-as w bytes 11 (past-form product w bytes sane f (later k (later (clash-free n)
+          (here (lt→ltb (length w) _ more))))) (omega arith)

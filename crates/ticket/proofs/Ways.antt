@@ -16,25 +16,26 @@ use Rattle.rdfs.specs.Insertion.{insertion}
 use Rattle.rdfs.specs.Deletion.{deletion}
 use Rattle.rdfs.specs.Tickets.{asked, unknownProperty, ticketOf}
 use Rattle.rdfs.specs.Lookups.{lookupClash}
-use Rattle.rdfs.specs.Register.{orElse, tooMany, step}
+use Rattle.rdfs.specs.Refusals.{orElse, tooMany}
+use Rattle.rdfs.specs.Register.{step}
 use Rattle.rdfs.specs.Promises.{Formed}
-use Rattle.rdfs.proofs.Facts.{tests-all-has}
-use Rattle.rdfs.proofs.LaidOut.{laid-shape}
-use Rattle.rdfs.proofs.TicketTests.{known-kind, uses-known}
+use Rattle.rdfs.proofs.words.FactLaws.{tests-all-has}
+use Rattle.rdfs.proofs.words.LaidOut.{laid-shape}
+use Rattle.rdfs.proofs.tickets.TicketTests.{known-kind, uses-known}
 use Rattle.rdfs.proofs.Theorems.{product-sound}
-use Rattle.rdfs.proofs.InsertionSteps.{new-is}
-use Rattle.rdfs.proofs.Within.{repeated-insertion}
+use Rattle.rdfs.proofs.insertion.InsertionSteps.{new-is}
+use Rattle.rdfs.proofs.insertion.Within.{repeated-insertion}
 use Rattle.table.specs.Counted.{factsOf}
 use Rattle.table.specs.Room.{clearedFrom}
-use Rattle.table.proofs.Counted.{counted-first, counted-search}
-use Rattle.insertion.specs.Answers.{Insertable, GrowMeans}
+use Rattle.table.proofs.CountedLaws.{counted-first, counted-search}
+use Rattle.insertion.specs.GrowAnswers.{Insertable, GrowMeans}
 use Rattle.insertion.specs.declared.put.Grown.{Grown}
-use Rattle.insertion.specs.declared.put.Grown.the-variants.{Facts as Grows, Full}
-use Rattle.ticket_form.specs.Form.{recordOf, Asked}
+use Rattle.insertion.specs.declared.put.Grown.the-variants.{Facts as Grows, TooMany}
+use Rattle.ticket_form.specs.TicketForm.{recordOf, Asked}
 use Rattle.ticket.specs.Ready.{Ready, Possible}
 use Rattle.ticket.specs.Answered.{Stepped}
 use Rattle.ticket.specs.declared.step.Step.the-variants.{Facts, Refused}
-use Rattle.ticket.proofs.RefusedSteps.{formed-record, looked-clash, unknown-refused, clash-refused, full-refused}
+use Rattle.ticket.proofs.RefusedSteps.{formed-record, looked-clash, unknown-refused, clash-refused, too-many-refused}
 use Rattle.ticket.proofs.AcceptedSteps.{stepped-refused, stepped-same, stepped-inserted, stepped-deleted}
 
 holds : {b : Bool} → b ≡ true → T b
@@ -47,12 +48,12 @@ fails e t = subst T e t
 padded-room : (l x : List ℕ) (n : ℕ) → x ≡ padded n l → length x ≡ n → length l ≤ n
 padded-room l x n e h = omega (arith, ap length e, length-append l (replicate (n - length l) 0))
 
--- Words s stored at the front of t, and zeros after them.
-pub put-back-leaves : (t s u : List ℕ) → length s ≤ length t → u ≡ s → clearedFrom (u ++ drop (length s) t) (length s) ≡ padded
-    (length t) s
-put-back-leaves t s u h e =
-    let r : List ℕ = drop (length s) t in
-    let whole : length (s ++ r) ≡ length t = omega (arith, length-append s r, length-drop (length s) t) in
+-- Words s stored at the front of w, and zeros after them.
+pub put-back-leaves : (w s u : List ℕ) → length s ≤ length w → u ≡ s → clearedFrom (u ++ drop (length s) w) (length s) ≡ padded
+    (length w) s
+put-back-leaves w s u h e =
+    let r : List ℕ = drop (length s) w in
+    let whole : length (s ++ r) ≡ length w = omega (arith, length-append s r, length-drop (length s) w) in
     ap (λ l. clearedFrom (l ++ r) (length s)) e
     ∙ (ap (λ l. l ++ replicate (length (s ++ r) - length s) 0) (take-append-seam s r) ∙ ap (λ j. s ++ replicate (j - length s) 0)
     whole)
@@ -86,11 +87,11 @@ abbrev pub grownWords : List ℕ → ℕ → ℕ → ℕ → ℕ → List ℕ
 grownWords w k a b c = words product (insertion (product .top) (factsOf w) (asked (ticketOf 1 k a b c)))
 
 module _ {w : List ℕ} {n k a b c : ℕ} (p : Possible w n k a b c) where
-  pub way-full : length w < length (grownWords w k a b c) → Stepped n (Refused 11) w (step product w (recordOf 1 k a b c))
-  way-full h = stepped-refused w (recordOf 1 k a b c) n 11 (full-refused w (recordOf 1 k a b c) (p .ready .table)
+  way-too-many : length w < length (grownWords w k a b c) → Stepped n (Refused 11) w (step product w (recordOf 1 k a b c))
+  way-too-many h = stepped-refused w (recordOf 1 k a b c) n 11 (too-many-refused w (recordOf 1 k a b c) (p .ready .table)
       (ready-formed (p .ready)) tt (fails (p .known)) (fails (p .free)) h)
 
-  pub way-grown : (x : List ℕ) (m : ℕ) → x ≡ padded (length w) (grownWords w k a b c) → m ≡ length (grownWords w k a b c)
+  way-grown : (x : List ℕ) (m : ℕ) → x ≡ padded (length w) (grownWords w k a b c) → m ≡ length (grownWords w k a b c)
       → length x ≡ length w
       → Stepped n (Facts m) x (step product w (recordOf 1 k a b c))
   way-grown x m e d l = subst (λ y. Stepped n (Facts m) y (step product w (recordOf 1 k a b c))) (sym e)
@@ -114,15 +115,15 @@ pub possible-insertable : {w : List ℕ} {n k a b c : ℕ} → Possible w n k a 
 possible-insertable {w} {n} {k} {a} {b} {c} p =
     let r = p .ready in
     let f = ready-formed r in
-    let t = ticketOf 1 k a b c in
+    let ticket = ticketOf 1 k a b c in
     let bytes = recordOf 1 k a b c in
     record {
-      table = ready-asked r .table;
+      counted = ready-asked r .table;
       consistent = r .table .consistent;
       insert = tt;
-      kinds = known-kind t (f .kind);
+      kinds = known-kind ticket (f .kind);
       ids = f .ids;
-      uses = uses-known (factsOf w) t tt (fails (p .known));
+      uses = uses-known (factsOf w) ticket tt (fails (p .known));
       free = λ h. fails (p .free) (subst T (sym (looked-clash w bytes (r .table) f tt (fails (p .known))
           ∙ ap clashes (new-is product product-sound w bytes (r .table) tt))) h);
     }
@@ -141,18 +142,18 @@ no-room false e = absurd (omega (arith, e))
 -- What the growth of the table w to x says.
 module _ {w : List ℕ} {n k a b c : ℕ} (p : Possible w n k a b c) (x : List ℕ) where
   -- There is no room, and the saved words are put back.
-  pub way-no-room : {s z : List ℕ} → s ≡ take n w → z ≡ padded (length x) s → (g : Grown) → g ≡ Full
+  pub way-no-room : {s z : List ℕ} → s ≡ take n w → z ≡ padded (length x) s → (g : Grown) → g ≡ TooMany
       → GrowMeans w (ticketOf 1 k a b c) x g
       → Stepped n (Refused 11) z (step product w (recordOf 1 k a b c))
   way-no-room {s} saved back g f h =
       let q = subst (GrowMeans w (ticketOf 1 k a b c) x) f h in
       let over = no-room (tooMany product w (insertion (product .top) (factsOf w) (asked (ticketOf 1 k a b c)))) (q .0) in
-      let t = ready-asked (p .ready) .table in
-      let facts-saved : s ≡ filled w = saved ∙ counted-first t in
+      let counted = ready-asked (p .ready) .table in
+      let facts-saved : s ≡ filled w = saved ∙ counted-first counted in
       let again =
-      back ∙ (ap (λ j. padded j s) (q .1) ∙ (ap (padded (length w)) facts-saved ∙ sym (laid-shape product w (t .laid)))) in
+      back ∙ (ap (λ j. padded j s) (q .1) ∙ (ap (padded (length w)) facts-saved ∙ sym (laid-shape product w (counted .laid)))) in
       subst (λ y. Stepped n (Refused 11) y (step product w (recordOf 1 k a b c))) (sym again)
-      (way-full p (ltb→lt (length w) (length (grownWords w k a b c)) over))
+      (way-too-many p (ltb→lt (length w) (length (grownWords w k a b c)) over))
 
   pub way-room : (g : Grown) (m : ℕ) → g ≡ Grows m → GrowMeans w (ticketOf 1 k a b c) x g → length x ≡ length w
       → Stepped n (Facts m) x (step product w (recordOf 1 k a b c))

@@ -4,55 +4,57 @@ use mathlib.Core.Path.{_≡_}
 use mathlib.Core.List.{List}
 use Rattle.rdfs.specs.Numbers.{product}
 use Rattle.rdfs.specs.Register.{Answer, step}
-use Rattle.ticket.specs.declared.Applied.{Applied}
+use Rattle.ticket.specs.declared.answer.Applied.{Applied}
 use Rattle.ticket.specs.declared.step.Step.{Step}
 use Rattle.ticket.specs.declared.step.Step.the-variants.{Facts, Refused}
 
 -- A call answers as the register does, and leaves its words.
-pub record Answered (r : Applied) (exit : List ℕ) (s : Answer) : Type 0 where
-  pub number : r .answer ≡ s .number
-  pub added : r .added ≡ s .added
-  pub removed : r .removed ≡ s .removed
-  pub words : exit ≡ s .table
+pub record Answered (applied : Applied) (after : List ℕ) (answer : Answer) : Type 0 where
+  pub number : applied .answer ≡ answer .number
+  pub added : applied .added ≡ answer .added
+  pub removed : applied .removed ≡ answer .removed
+  pub words : after ≡ answer .table
 
--- What `apply` promises, for all words w of a table and all bytes of a ticket: it answers r and leaves the
--- words v. The theorems on the call take this as their premise, and proofs/Tied says that it is the contract
--- in the source.
-abbrev pub ApplyPromise : (w bytes : List ℕ) → Applied → (v : List ℕ) → Type 0
-ApplyPromise w bytes r v = Answered r v (step product w bytes)
+-- What `apply` promises, for all words of a table and all bytes of a ticket. The theorems on the call take
+-- this as their premise, and proofs/ApplyTied says that it is the contract in the source.
+abbrev pub ApplyPromise : (before bytes : List ℕ) → Applied → (after : List ℕ) → Type 0
+ApplyPromise before bytes applied after = Answered applied after (step product before bytes)
 
--- Document 01's number and counts for each case of an inner step on a table of n facts.
+-- Document 01's number and counts for each case of an inner step on a table of this many facts.
 abbrev pub numberOf : Step → ℕ
-numberOf (Facts m) = 0
-numberOf (Refused k) = k
+numberOf (Facts after) = 0
+numberOf (Refused number) = number
 
 abbrev pub addedOf : ℕ → Step → ℕ
-addedOf n (Facts m) = m - n
-addedOf n (Refused k) = 0
+addedOf count (Facts after) = after - count
+addedOf count (Refused number) = 0
 
 abbrev pub removedOf : ℕ → Step → ℕ
-removedOf n (Facts m) = n - m
-removedOf n (Refused k) = 0
+removedOf count (Facts after) = count - after
+removedOf count (Refused number) = 0
 
 -- An answer by them.
-pub record Valued (r : Applied) (n : ℕ) (s : Step) : Type 0 where
-  pub number : r .answer ≡ numberOf s
-  pub added : r .added ≡ addedOf n s
-  pub removed : r .removed ≡ removedOf n s
+pub record Valued (applied : Applied) (count : ℕ) (stepped : Step) : Type 0 where
+  pub number : applied .answer ≡ numberOf stepped
+  pub added : applied .added ≡ addedOf count stepped
+  pub removed : applied .removed ≡ removedOf count stepped
 
 -- The facts after it, no more than a table can have.
 abbrev pub Fits : Step → Type 0
-Fits (Facts m) = m ≤ product .most
-Fits (Refused k) = Unit {0}
+Fits (Facts after) = after ≤ product .most
+Fits (Refused number) = Unit {0}
 
 -- An inner step does as the register.
-pub record Stepped (n : ℕ) (r : Step) (exit : List ℕ) (s : Answer) : Type 0 where
-  pub number : numberOf r ≡ s .number
-  pub added : addedOf n r ≡ s .added
-  pub removed : removedOf n r ≡ s .removed
-  pub words : exit ≡ s .table
-  pub fits : Fits r
+pub record Stepped (count : ℕ) (stepped : Step) (after : List ℕ) (answer : Answer) : Type 0 where
+  pub number : numberOf stepped ≡ answer .number
+  pub added : addedOf count stepped ≡ answer .added
+  pub removed : removedOf count stepped ≡ answer .removed
+  pub words : after ≡ answer .table
+  pub fits : Fits stepped
 
--- The register's answer to a refused ticket.
+-- The answer to a refused ticket, the call's and the register's.
+abbrev pub refusedAnswer : ℕ → Applied
+refusedAnswer number = record { answer = number; added = 0; removed = 0 }
+
 abbrev pub refusedWith : ℕ → List ℕ → Answer
-refusedWith n w = record { number = n; added = 0; removed = 0; table = w }
+refusedWith number words = record { number = number; added = 0; removed = 0; table = words }

@@ -10,16 +10,16 @@ use Rattle.rdfs.specs.Words.{filled}
 use Rattle.rdfs.specs.Lookups.{lookupClash}
 use Rattle.rdfs.specs.Register.{Table}
 use Rattle.table.specs.Counted.{factsOf}
-use Rattle.ticket_form.specs.Form.{formRefusal}
+use Rattle.ticket_form.specs.TicketForm.{formRefusal}
 
--- A consistent table with n facts, and a ticket past the first eight refusals.
-pub record Ready (t : List ℕ) (n o k a b c : ℕ) : Type 0 where
-  pub table : Table product t
-  pub size : n ≡ length (filled t)
-  pub formed : formRefusal (defs.ticketOf o k a b c) ≡ 0
+-- A consistent table with this many facts, and a ticket past the first eight refusals.
+pub record Ready (words : List ℕ) (count operation k a b c : ℕ) : Type 0 where
+  pub table : Table product words
+  pub size : count ≡ length (filled words)
+  pub formed : formRefusal (defs.ticketOf operation k a b c) ≡ 0
 
 -- An insertion past refusal 10.
-pub record Possible (t : List ℕ) (n k a b c : ℕ) : Type 0 where
-  pub ready : Ready t n 1 k a b c
-  pub known : defs.unknownProperty (factsOf t) (defs.ticketOf 1 k a b c) ≡ false
-  pub free : lookupClash (factsOf t) (defs.ticketOf 1 k a b c) ≡ false
+pub record Possible (words : List ℕ) (count k a b c : ℕ) : Type 0 where
+  pub ready : Ready words count 1 k a b c
+  pub known : defs.unknownProperty (factsOf words) (defs.ticketOf 1 k a b c) ≡ false
+  pub free : lookupClash (factsOf words) (defs.ticketOf 1 k a b c) ≡ false

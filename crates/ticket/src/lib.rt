@@ -10,7 +10,7 @@
 // the table's facts, 8 KB of stack, and puts them back if the new graph does not fit, 11.
 ghost use Rattle.rdfs.specs.Numbers.{product};
 ghost use Rattle.rdfs.specs.Register.{step, Table};
-ghost use Rattle.ticket_form.specs.Form.{bytesOf};
+ghost use Rattle.ticket_form.specs.TicketForm.{bytesOf};
 ghost use Rattle.ticket.specs.Answered.{Answered};
 use crate::answer::answer_of;
 use crate::answer::refused;
@@ -30,51 +30,47 @@ use ticket_form::wide;
 mod answer;
 mod step;
 
-// What a ticket answers: 0 or a refusal, and how many facts it added and removed.
-pub struct Applied {
-    pub answer: u8,
-    pub added: u16,
-    pub removed: u16,
-}
+pub use answer::Applied;
 
 // One ticket on a table known to be consistent.
-pub fn apply_ticket(table: &mut [Word], t: Ticket) -> Applied
-    requires { ⌜ Table product (now table) ⌝ }
-    ensures { λ r. ⌜ Answered r (now (table .exit)) (step product (now (table .entry)) (bytesOf t)) ⌝ }
+pub fn apply_ticket(table: &mut [Word], ticket: Ticket) -> Applied
+    requires table { ⌜ Table product (now table) ⌝ }
+    ensures answer { λ r. ⌜ Answered r (now (table .exit)) (step product (now (table .entry))
+        (bytesOf ticket)) ⌝ }
 {
-    let form = form_refusal(t);
+    let form = form_refusal(ticket);
     if form != 0 {
         return refused(form);
     }
-    let n = count_facts(table);
-    let k = wide(t.kind);
-    let a = wide(t.a);
-    let b = wide(t.b);
-    let c = wide(t.c);
-    if t.operation == INSERT {
-        let s = run_insertion(table, n, k, a, b, c);
-        return answer_of(n, s);
+    let count = count_facts(table);
+    let k = wide(ticket.kind);
+    let a = wide(ticket.a);
+    let b = wide(ticket.b);
+    let c = wide(ticket.c);
+    if ticket.operation == INSERT {
+        let stepped = run_insertion(table, count, k, a, b, c);
+        return answer_of(count, stepped);
     }
-    let s = run_deletion(table, n, k, a, b, c);
-    answer_of(n, s)
+    let stepped = run_deletion(table, count, k, a, b, c);
+    answer_of(count, stepped)
 }
 
 // The same, with the ticket as bytes, whatever they are.
 pub fn apply_checked(table: &mut [Word], ticket: &[u8]) -> Applied
-    requires { ⌜ Table product (now table) ⌝ }
-    ensures { λ r. ⌜ Answered r (now (table .exit)) (step product (now (table .entry))
+    requires table { ⌜ Table product (now table) ⌝ }
+    ensures answer { λ r. ⌜ Answered r (now (table .exit)) (step product (now (table .entry))
         (now (ticket .entry))) ⌝ }
 {
     if ticket.len() != RECORD {
         return refused(BAD_LENGTH);
     }
-    let t = decode(ticket);
-    apply_ticket(table, t)
+    let decoded = decode(ticket);
+    apply_ticket(table, decoded)
 }
 
 // One ticket, whatever its bytes, on the words of a table, whatever they are.
 pub fn apply(table: &mut [Word], ticket: &[u8]) -> Applied
-    ensures { λ r. ⌜ Answered r (now (table .exit)) (step product (now (table .entry))
+    ensures answer { λ r. ⌜ Answered r (now (table .exit)) (step product (now (table .entry))
         (now (ticket .entry))) ⌝ }
 {
     let answer = check(table);

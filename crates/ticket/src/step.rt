@@ -5,7 +5,7 @@ ghost use lib.ListN.{length};
 ghost use Rattle.rdfs.specs.Numbers.{product};
 ghost use Rattle.rdfs.specs.Words.{padded};
 ghost use Rattle.rdfs.specs.Register.{step};
-ghost use Rattle.ticket_form.specs.Form.{recordOf};
+ghost use Rattle.ticket_form.specs.TicketForm.{recordOf};
 ghost use Rattle.ticket.specs.Ready.{Ready, Possible};
 ghost use Rattle.ticket.specs.Answered.{Stepped};
 use clash::clashes;
@@ -32,76 +32,77 @@ pub enum Step {
 
 // Makes a table the saved words, then zeros.
 fn put_back(table: &mut [Word], saved: &[Word])
-    requires { ⌜ length (now saved) ≤ length (now table) ⌝ }
-    ensures { λ _. ⌜ now (table .exit) ≡ padded (length (now (table .entry))) (now (saved .entry)) ⌝ }
+    requires room { ⌜ length (now saved) ≤ length (now table) ⌝ }
+    ensures words { λ _. ⌜ now (table .exit) ≡ padded (length (now (table .entry))) (now (saved .entry)) ⌝ }
 {
-    let n = saved.len();
-    copy_words(saved, &mut table[..n]);
-    clear_from(table, n);
+    let count = saved.len();
+    copy_words(saved, &mut table[..count]);
+    clear_from(table, count);
 }
 
-// Puts the asked facts in with what follows from them. The words of the table's n facts are saved first and
+// Puts the asked facts in with what follows from them. The words of the table's facts are saved first and
 // put back where the new graph does not fit.
 fn insert_saving(
     table: &mut [Word],
     saved: &mut [Word],
-    n: usize,
+    count: usize,
     k: Word,
     a: Word,
     b: Word,
     c: Word,
 ) -> Step
-    requires { ⌜ Possible (now table) n k a b c × (length (now saved) ≡ n) ⌝ }
-    ensures { λ r. ⌜ Stepped n r (now (table .exit)) (step product (now (table .entry))
+    requires ticket { ⌜ Possible (now table) count k a b c ⌝ }
+    requires saved { ⌜ length (now saved) ≡ count ⌝ }
+    ensures answer { λ r. ⌜ Stepped count r (now (table .exit)) (step product (now (table .entry))
         (recordOf 1 k a b c)) ⌝ }
 {
-    copy_words(&table[..n], saved);
-    let grown = grow(table, n, k, a, b, c);
-    let Grown::Facts(m) = grown else {
+    copy_words(&table[..count], saved);
+    let grown = grow(table, count, k, a, b, c);
+    let Grown::Facts(after) = grown else {
         put_back(table, saved);
         return Step::Refused(TOO_MANY);
     };
-    Step::Facts(m)
+    Step::Facts(after)
 }
 
 // The same, with room of its own for the saved words.
-fn insert_possible(table: &mut [Word], n: usize, k: Word, a: Word, b: Word, c: Word) -> Step
-    requires { ⌜ Possible (now table) n k a b c ⌝ }
-    ensures { λ r. ⌜ Stepped n r (now (table .exit)) (step product (now (table .entry))
+fn insert_possible(table: &mut [Word], count: usize, k: Word, a: Word, b: Word, c: Word) -> Step
+    requires ticket { ⌜ Possible (now table) count k a b c ⌝ }
+    ensures answer { λ r. ⌜ Stepped count r (now (table .exit)) (step product (now (table .entry))
         (recordOf 1 k a b c)) ⌝ }
 {
     let mut saved = [0; MOST];
-    insert_saving(table, &mut saved[..n], n, k, a, b, c)
+    insert_saving(table, &mut saved[..count], count, k, a, b, c)
 }
 
 // An insertion. One that is refused with 9 or 10, or whose asked facts are all there, costs a few lookups and
 // saves nothing.
-pub fn run_insertion(table: &mut [Word], n: usize, k: Word, a: Word, b: Word, c: Word) -> Step
-    requires { ⌜ Ready (now table) n 1 k a b c ⌝ }
-    ensures { λ r. ⌜ Stepped n r (now (table .exit)) (step product (now (table .entry))
+pub fn run_insertion(table: &mut [Word], count: usize, k: Word, a: Word, b: Word, c: Word) -> Step
+    requires ticket { ⌜ Ready (now table) count 1 k a b c ⌝ }
+    ensures answer { λ r. ⌜ Stepped count r (now (table .exit)) (step product (now (table .entry))
         (recordOf 1 k a b c)) ⌝ }
 {
-    let unknown = is_unknown_property(table, n, k, a, b, c);
+    let unknown = is_unknown_property(table, count, k, a, b, c);
     if unknown {
         return Step::Refused(UNKNOWN_PROPERTY);
     }
-    let there = has_asked(table, n, k, a, b, c);
+    let there = has_asked(table, count, k, a, b, c);
     if there {
-        return Step::Facts(n);
+        return Step::Facts(count);
     }
-    let clash = clashes(table, n, k, a, b, c);
+    let clash = clashes(table, count, k, a, b, c);
     if clash {
         return Step::Refused(CLASHING);
     }
-    insert_possible(table, n, k, a, b, c)
+    insert_possible(table, count, k, a, b, c)
 }
 
 // A deletion. One whose fact is gone costs a lookup and changes nothing.
-pub fn run_deletion(table: &mut [Word], n: usize, k: Word, a: Word, b: Word, c: Word) -> Step
-    requires { ⌜ Ready (now table) n 2 k a b c ⌝ }
-    ensures { λ r. ⌜ Stepped n r (now (table .exit)) (step product (now (table .entry))
+pub fn run_deletion(table: &mut [Word], count: usize, k: Word, a: Word, b: Word, c: Word) -> Step
+    requires ticket { ⌜ Ready (now table) count 2 k a b c ⌝ }
+    ensures answer { λ r. ⌜ Stepped count r (now (table .exit)) (step product (now (table .entry))
         (recordOf 2 k a b c)) ⌝ }
 {
-    let left = delete(table, n, k, a, b, c);
+    let left = delete(table, count, k, a, b, c);
     Step::Facts(left)
 }

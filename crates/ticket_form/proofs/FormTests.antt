@@ -6,10 +6,10 @@ use mathlib.Core.List.{List, [], _∷_}
 use native.Mathlib.Omega.{arith}
 use lib.Dec.{eqb, ltb}
 use lib.ListN.{length, getD}
+use borrow.Author.Tests.{lt-ltb, le-ltb, eq-eqb, ne-eqb}
 use Rattle.rdfs.specs.Lists.{all}
 use Rattle.rdfs.specs.Facts.{Fact, pr, dom, rng, made, has}
 use Rattle.rdfs.specs.Tickets.{asked, ticketOf}
-use borrow.Author.Tests.{lt-ltb, le-ltb, eq-eqb, ne-eqb}
 
 -- A byte x, made wide as r and compared with v.
 module _ {r x v : ℕ} (w : r ≡ x) where

@@ -2,10 +2,10 @@
 ghost use mathlib.Core.Path.{_≡_};
 ghost use Rattle.rdfs.specs.Numbers.{product};
 ghost use Rattle.rdfs.specs.Tickets.{makesProperty, used, unusedNotZero, markMisplaced, aboveHighest, badIds};
-ghost use Rattle.ticket_form.specs.Form.{sense};
-use crate::INSERT;
-use crate::Ticket;
-use crate::wide;
+ghost use Rattle.ticket_form.specs.TicketForm.{sense};
+use crate::fields::INSERT;
+use crate::fields::Ticket;
+use crate::fields::wide;
 use table::MARK;
 use table::PROPERTY;
 use table::TOP;
@@ -16,11 +16,11 @@ use table::arity_of;
 const PROPERTY_IDS: Word = 3;
 
 // An insertion of kind 2: b is the domain and c the range.
-fn makes_property(t: Ticket) -> bool
-    ensures { λ r. ⌜ r ≡ makesProperty (sense t) ⌝ }
+fn makes_property(ticket: Ticket) -> bool
+    ensures answer { λ r. ⌜ r ≡ makesProperty (sense ticket) ⌝ }
 {
-    if t.operation == INSERT {
-        let k = wide(t.kind);
+    if ticket.operation == INSERT {
+        let k = wide(ticket.kind);
         if k == PROPERTY {
             return true;
         }
@@ -29,70 +29,70 @@ fn makes_property(t: Ticket) -> bool
 }
 
 // How many ids a ticket uses.
-fn used_ids(t: Ticket) -> Word
-    ensures { λ r. ⌜ r ≡ used (sense t) ⌝ }
+fn used_ids(ticket: Ticket) -> Word
+    ensures answer { λ r. ⌜ r ≡ used (sense ticket) ⌝ }
 {
-    let makes = makes_property(t);
+    let makes = makes_property(ticket);
     if makes {
         return PROPERTY_IDS;
     }
-    let k = wide(t.kind);
+    let k = wide(ticket.kind);
     arity_of(k)
 }
 
 // An unused byte is not 0.
-fn has_unused_byte(t: Ticket) -> bool
-    ensures { λ r. ⌜ r ≡ unusedNotZero (sense t) ⌝ }
+fn has_unused_byte(ticket: Ticket) -> bool
+    ensures answer { λ r. ⌜ r ≡ unusedNotZero (sense ticket) ⌝ }
 {
-    let n = used_ids(t);
-    if 2 < n {
+    let ids = used_ids(ticket);
+    if 2 < ids {
         return false;
     }
-    if t.c != 0 {
+    if ticket.c != 0 {
         return true;
     }
-    if 1 < n {
+    if 1 < ids {
         return false;
     }
-    if t.b != 0 {
+    if ticket.b != 0 {
         return true;
     }
     false
 }
 
 // The mark stands elsewhere than as c of an insertion of kind 2.
-fn has_misplaced_mark(t: Ticket) -> bool
-    ensures { λ r. ⌜ r ≡ markMisplaced (sense t) ⌝ }
+fn has_misplaced_mark(ticket: Ticket) -> bool
+    ensures answer { λ r. ⌜ r ≡ markMisplaced (sense ticket) ⌝ }
 {
-    let a = wide(t.a);
+    let a = wide(ticket.a);
     if a == MARK {
         return true;
     }
-    let b = wide(t.b);
+    let b = wide(ticket.b);
     if b == MARK {
         return true;
     }
-    let c = wide(t.c);
+    let c = wide(ticket.c);
     if c == MARK {
-        let makes = makes_property(t);
+        let makes = makes_property(ticket);
         return !makes;
     }
     false
 }
 
 // An id is above the highest. No byte is, as long as the highest id is 255.
-fn has_high_id(t: Ticket) -> bool
-    ensures { λ r. ⌜ r ≡ aboveHighest (product .top) (sense t) ⌝ }
+fn has_high_id(ticket: Ticket) -> bool
+    ensures answer { λ r. ⌜ r ≡ aboveHighest (product .top) (sense ticket) ⌝ }
 {
-    let a = wide(t.a);
+    let a = wide(ticket.a);
     if TOP < a {
         return true;
     }
-    let b = wide(t.b);
+    let b = wide(ticket.b);
     if TOP < b {
         return true;
     }
-    let c = wide(t.c);
+    let c = wide(ticket.c);
     if TOP < c {
         return true;
     }
@@ -100,16 +100,16 @@ fn has_high_id(t: Ticket) -> bool
 }
 
 // Refusal 7.
-pub fn has_bad_ids(t: Ticket) -> bool
-    ensures { λ r. ⌜ r ≡ badIds (product .top) (sense t) ⌝ }
+pub fn has_bad_ids(ticket: Ticket) -> bool
+    ensures answer { λ r. ⌜ r ≡ badIds (product .top) (sense ticket) ⌝ }
 {
-    let unused = has_unused_byte(t);
+    let unused = has_unused_byte(ticket);
     if unused {
         return true;
     }
-    let mark = has_misplaced_mark(t);
-    if mark {
+    let misplaced = has_misplaced_mark(ticket);
+    if misplaced {
         return true;
     }
-    has_high_id(t)
+    has_high_id(ticket)
 }

@@ -5,7 +5,7 @@ ghost use Rattle.rdfs.specs.Lists.{all};
 ghost use Rattle.rdfs.specs.Facts.{pr, has};
 ghost use Rattle.rdfs.specs.Tickets.{asked, unknownProperty, ticketOf};
 ghost use Rattle.table.specs.Counted.{Counted, Id, factsOf};
-ghost use Rattle.ticket_form.specs.Form.{Asked};
+ghost use Rattle.ticket_form.specs.TicketForm.{Asked};
 use clash::has_property;
 use table::PROPERTY;
 use table::SUBPROPERTY;
@@ -14,46 +14,48 @@ use table::Word;
 use table::has_fact;
 
 // x is no property of the table.
-fn lacks_property(t: &[Word], n: usize, x: Word) -> bool
-    requires { ⌜ Counted (now t) n × Id x ⌝ }
-    ensures { λ r. ⌜ r ≡ not (has (factsOf (now (t .entry))) (pr x)) ⌝ }
+fn lacks_property(table: &[Word], count: usize, x: Word) -> bool
+    requires table { ⌜ Counted (now table) count ⌝ }
+    requires id { ⌜ Id x ⌝ }
+    ensures answer { λ r. ⌜ r ≡ not (has (factsOf (now (table .entry))) (pr x)) ⌝ }
 {
-    let there = has_fact(t, n, PROPERTY, x, 0, 0);
+    let there = has_fact(table, count, PROPERTY, x, 0, 0);
     !there
 }
 
 // x or y is no property of the table.
-fn lacks_either(t: &[Word], n: usize, x: Word, y: Word) -> bool
-    requires { ⌜ Counted (now t) n × Id x × Id y ⌝ }
-    ensures { λ r. ⌜ r ≡ (not (has (factsOf (now (t .entry))) (pr x)) || not (has (factsOf (now (t .entry)))
-        (pr y))) ⌝ }
+fn lacks_either(table: &[Word], count: usize, x: Word, y: Word) -> bool
+    requires table { ⌜ Counted (now table) count ⌝ }
+    requires ids { ⌜ Id x × Id y ⌝ }
+    ensures answer { λ r. ⌜ r ≡ (not (has (factsOf (now (table .entry))) (pr x))
+        || not (has (factsOf (now (table .entry))) (pr y))) ⌝ }
 {
-    let first = lacks_property(t, n, x);
+    let first = lacks_property(table, count, x);
     if first {
         return true;
     }
-    lacks_property(t, n, y)
+    lacks_property(table, count, y)
 }
 
 // Refusal 9: an insertion of PSub with a or b not a property of the table, or of PI with c not one.
-pub fn is_unknown_property(t: &[Word], n: usize, k: Word, a: Word, b: Word, c: Word) -> bool
-    requires { ⌜ Asked (now t) n 1 k a b c ⌝ }
-    ensures { λ r. ⌜ r ≡ unknownProperty (factsOf (now (t .entry))) (ticketOf 1 k a b c) ⌝ }
+pub fn is_unknown_property(table: &[Word], count: usize, k: Word, a: Word, b: Word, c: Word) -> bool
+    requires asked { ⌜ Asked (now table) count 1 k a b c ⌝ }
+    ensures answer { λ r. ⌜ r ≡ unknownProperty (factsOf (now (table .entry))) (ticketOf 1 k a b c) ⌝ }
 {
     match k {
-        SUBPROPERTY => lacks_either(t, n, a, b),
-        VALUE => lacks_property(t, n, c),
+        SUBPROPERTY => lacks_either(table, count, a, b),
+        VALUE => lacks_property(table, count, c),
         _ => false,
     }
 }
 
 // The asked facts of an insertion are all there.
-pub fn has_asked(t: &[Word], n: usize, k: Word, a: Word, b: Word, c: Word) -> bool
-    requires { ⌜ Asked (now t) n 1 k a b c ⌝ }
-    ensures { λ r. ⌜ r ≡ all (has (factsOf (now (t .entry)))) (asked (ticketOf 1 k a b c)) ⌝ }
+pub fn has_asked(table: &[Word], count: usize, k: Word, a: Word, b: Word, c: Word) -> bool
+    requires asked { ⌜ Asked (now table) count 1 k a b c ⌝ }
+    ensures answer { λ r. ⌜ r ≡ all (has (factsOf (now (table .entry)))) (asked (ticketOf 1 k a b c)) ⌝ }
 {
     if k == PROPERTY {
-        return has_property(t, n, a, b, c);
+        return has_property(table, count, a, b, c);
     }
-    has_fact(t, n, k, a, b, c)
+    has_fact(table, count, k, a, b, c)
 }

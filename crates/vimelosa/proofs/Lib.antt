@@ -1,6 +1,6 @@
--- Host: each way through `vimelosa_apply`. Saved: what its number says and what it leaves in the output. Theorems: what is proved
--- from its promise. Tied: the contract in the source is that promise.
-pub mod Host
+-- HostWays: each way through `vimelosa_apply`. Saved: what its number says and what it leaves in the output. HostTheorems: what
+-- is proved from its promise. HostTied: the contract in the source is that promise.
+pub mod HostWays
 pub mod Saved
-pub mod Theorems
-mod Tied
+pub mod HostTheorems
+mod HostTied

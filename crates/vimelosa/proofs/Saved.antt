@@ -12,20 +12,21 @@ use Rattle.rdfs.specs.Numbers.{product}
 use Rattle.rdfs.specs.Lists.{member}
 use Rattle.rdfs.specs.Words.{filled, facts, words}
 use Rattle.rdfs.specs.Tickets.{Ticket, decoded, badLength, badOperation, badKind, badIds, guarded, unknownProperty, clashing}
-use Rattle.rdfs.specs.Register.{Answer, orElse, badSize, badLayout, inconsistent, tableRefusal, tooMany}
-use Rattle.rdfs.proofs.Filters.{filter-split}
-use Rattle.rdfs.proofs.Refusals.{new, passed}
-use Rattle.rdfs.proofs.Steps.{step-number, accepted-leaves, room-fits, step-length}
+use Rattle.rdfs.specs.Refusals.{orElse, badSize, badLayout, inconsistent, tableRefusal, tooMany}
+use Rattle.rdfs.specs.Register.{Answer}
+use Rattle.rdfs.proofs.lists.Filters.{filter-split}
+use Rattle.rdfs.proofs.tickets.TicketRefusals.{new, passed}
+use Rattle.rdfs.proofs.tickets.Steps.{step-number, accepted-leaves, room-fits, step-length}
 use Rattle.table.proofs.Filled.{filled-within}
-use Rattle.contents.specs.Form.{form}
+use Rattle.contents.specs.ImageForm.{form}
 use Rattle.contents.specs.Reading.{wordsOf, malformed}
-use Rattle.writing.specs.Calls.{tableImage, writeAnswer, writeLength, writeBytes}
+use Rattle.writing.specs.WritePromise.{tableImage, writeAnswer, writeLength, writeBytes}
 use Rattle.writing.proofs.WriteCall.{write-taken}
-use Rattle.reading.specs.Calls.{readAnswer, readWords}
+use Rattle.reading.specs.ReadPromise.{readAnswer, readWords}
 use Rattle.reading.proofs.ReadCall.{read-length}
 use Rattle.vimelosa.specs.Host.{sixteenBits, packed, answerIn, addedIn, removedIn, lengthIn}
 use Rattle.vimelosa.specs.Host.{refusedElse, room, applied, hostAnswer, hostOutput}
-use Rattle.vimelosa.proofs.Host.{refused-is, passed-is, passed-leaves, read-table}
+use Rattle.vimelosa.proofs.HostWays.{refused-is, passed-is, passed-leaves, read-table}
 
 -- A refusal fits its field.
 else-small : (b : Bool) (n rest : ℕ) → n < sixteenBits → rest < sixteenBits → orElse b n rest < sixteenBits

@@ -7,8 +7,8 @@ use lib.Dec.{eqb}
 use lib.ListN.{replicate}
 use Rattle.rdfs.specs.Numbers.{product}
 use Rattle.rdfs.specs.Register.{Answer, step}
-use Rattle.writing.specs.Calls.{writeAnswer, writeLength, writeBytes}
-use Rattle.reading.specs.Calls.{readAnswer, readWords}
+use Rattle.writing.specs.WritePromise.{writeAnswer, writeLength, writeBytes}
+use Rattle.reading.specs.ReadPromise.{readAnswer, readWords}
 
 -- The values of a number of 16 bits.
 abbrev pub sixteenBits : ℕ
@@ -21,20 +21,20 @@ packed answer added removed length =
 
 -- The answer, the facts added, the facts removed and the image's length in such a number.
 abbrev pub answerIn : ℕ → ℕ
-answerIn r = r % sixteenBits
+answerIn number = number % sixteenBits
 
 abbrev pub addedIn : ℕ → ℕ
-addedIn r = r / sixteenBits % sixteenBits
+addedIn number = number / sixteenBits % sixteenBits
 
 abbrev pub removedIn : ℕ → ℕ
-removedIn r = r / sixteenBits / sixteenBits % sixteenBits
+removedIn number = number / sixteenBits / sixteenBits % sixteenBits
 
 abbrev pub lengthIn : ℕ → ℕ
-lengthIn r = r / sixteenBits / sixteenBits / sixteenBits
+lengthIn number = number / sixteenBits / sixteenBits / sixteenBits
 
 -- A refusal with the other three 0; for 0, what comes after.
 abbrev pub refusedElse : ℕ → ℕ → ℕ
-refusedElse n rest = cond (eqb n 0) rest (packed n 0 0 0)
+refusedElse refusal rest = cond (eqb refusal 0) rest (packed refusal 0 0 0)
 
 -- The words that the image is read into. Reading does not look at them.
 abbrev pub room : List ℕ
@@ -48,19 +48,21 @@ applied image ticket = step product (readWords room image) ticket
 -- image's length.
 unfoldable pub hostAnswer : List ℕ → List ℕ → List ℕ → ℕ
 hostAnswer image ticket output =
-    let s : Answer = applied image ticket in
-    refusedElse (readAnswer room image) (refusedElse (s .number) (refusedElse (writeAnswer (s .table) output)
-    (packed 0 (s .added) (s .removed) (writeLength (s .table) output))))
+    let after : Answer = applied image ticket in
+    refusedElse (readAnswer room image) (refusedElse (after .number)
+    (refusedElse (writeAnswer (after .table) output)
+    (packed 0 (after .added) (after .removed) (writeLength (after .table) output))))
 
 -- What writing leaves; the bytes as they were if reading or the ticket is refused.
 unfoldable pub hostOutput : List ℕ → List ℕ → List ℕ → List ℕ
 hostOutput image ticket output =
-    let s : Answer = applied image ticket in
-    cond (eqb (readAnswer room image) 0) (cond (eqb (s .number) 0) (writeBytes (s .table) output) output)
+    let after : Answer = applied image ticket in
+    cond (eqb (readAnswer room image) 0) (cond (eqb (after .number) 0) (writeBytes (after .table) output)
+    output)
     output
 
--- The promise of the call, for all bytes of the three: the number r that it answers, and the bytes v that it
--- leaves in the output.
+-- The promise of the call, for all bytes of the three: the number that it answers, and the bytes left in the
+-- output.
 abbrev pub HostPromise : List ℕ → List ℕ → List ℕ → ℕ → List ℕ → Type 0
-HostPromise image ticket output r v =
-    (r ≡ hostAnswer image ticket output) × (v ≡ hostOutput image ticket output)
+HostPromise image ticket output number left =
+    (number ≡ hostAnswer image ticket output) × (left ≡ hostOutput image ticket output)

@@ -19,7 +19,7 @@ const FIELD: u64 = 65536;
 
 // Four numbers of 16 bits each, lowest first.
 fn pack(answer: u8, added: u16, removed: u16, length: u16) -> u64
-    ensures { λ r. ⌜ r ≡ packed answer added removed length ⌝ }
+    ensures answer { λ r. ⌜ r ≡ packed answer added removed length ⌝ }
 {
     answer as u64 + FIELD * (added as u64 + FIELD * (removed as u64 + FIELD * length as u64))
 }
@@ -29,7 +29,7 @@ fn pack(answer: u8, added: u16, removed: u16, length: u16) -> u64
 // order, the last three are 0 and the output is as it was.
 #[no_mangle]
 pub extern "C" fn vimelosa_apply(image: &[u8], ticket: &[u8], output: &mut [u8]) -> u64
-    ensures { λ r. ⌜ HostPromise (now (image .entry)) (now (ticket .entry)) (now (output .entry)) r
+    ensures promise { λ r. ⌜ HostPromise (now (image .entry)) (now (ticket .entry)) (now (output .entry)) r
         (now (output .exit)) ⌝ }
 {
     let mut table: [Word; MOST] = [0; MOST];

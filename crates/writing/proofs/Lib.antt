@@ -1,11 +1,16 @@
--- For functions: KindCount (put_contents), Measuring (image_length, put_contents), Overlaid (put_entry, put_run, put_bodies),
--- PutFact (put_fact), PutParts (put_contents, put_run, put_bodies), Runs (put_bodies), WriteCall (write_checked, write).
--- Measuring and WriteCall serve the crates above too. Tied: the contract of `write` in the source is its promise.
+-- For functions: KindCount and EndsFound (find_ends), Stretches (put_bodies), Measuring (how long an image can be), EndsLaws
+-- (image_length, put_contents, write_checked), Overlaid (put_entry, put_stretch, put_bodies), BytesPut (put_bytes), PutEntry
+-- (put_entry), PutFact (put_fact), PutParts (put_contents, put_stretch, put_bodies), WriteCall (write_checked, write). Measuring
+-- and WriteCall serve the crates above too. WriteTied: the contract of `write` in the source is its promise.
 pub mod KindCount
+pub mod EndsFound
+pub mod Stretches
 pub mod Measuring
+pub mod EndsLaws
 pub mod Overlaid
+pub mod BytesPut
+pub mod PutEntry
 pub mod PutFact
 pub mod PutParts
-pub mod Runs
 pub mod WriteCall
-mod Tied
+mod WriteTied

@@ -1,5 +1,5 @@
 -- An image written over lent bytes, from its first byte on. Assumes nothing.
-use Prim.Native.Nat.{ℕ, suc, _+_, _-_, _≤_}
+use Prim.Native.Nat.{ℕ, _+_, _-_, _≤_}
 use mathlib.Core.Path.{_≡_, refl, sym, ap, _∙_}
 use mathlib.Core.List.{List, [], _∷_, _++_, append-assoc}
 use native.Mathlib.Omega.{arith}
@@ -12,9 +12,9 @@ module _ {image out₀ out : List ℕ} {at : ℕ} (o : Overlaid image out₀ out
   firsts : length (take at image) ≡ at
   firsts = length-take-le at image (o .within)
 
-  pub overlaid-length : length image ≤ length out₀ → length out ≡ length out₀
+  pub overlaid-length : at ≤ length out₀ → length out ≡ length out₀
   overlaid-length room = ap length (o .so-far) ∙ (length-append (take at image) (drop at out₀)
-      ∙ omega (arith, firsts, length-drop at out₀, o .within, room))
+      ∙ omega (arith, firsts, length-drop at out₀, room))
 
   pub overlaid-after : (n : ℕ) → drop (at + n) out ≡ drop (at + n) out₀
   overlaid-after n =
@@ -58,37 +58,33 @@ module _ {image out₀ out : List ℕ} {at : ℕ} (o : Overlaid image out₀ out
       let all : at ≡ length image = omega (arith, o .within) in
       o .so-far ∙ (ap (λ n. take n image ++ drop n out₀) all ∙ ap (λ l. l ++ drop (length image) out₀) (take-length image))
 
--- One to three stores, and the six of an entry, one after another.
-pub one-store : (l : List ℕ) (i a : ℕ) → i + 1 ≤ length l → set l i a ≡ over l i (a ∷ [])
-one-store l i a h = sets-eq (a ∷ []) l i h ∙ append-assoc (take i l) (a ∷ []) (drop (i + 1) l)
-
+-- Two stores, one after the other.
 pub two-stores : (l : List ℕ) (i a b : ℕ) → i + 2 ≤ length l → set (set l i a) (i + 1) b ≡ over l i (a ∷ b ∷ [])
 two-stores l i a b h = ap (λ n. set (set l i a) n b) (add-one i) ∙ (sets-eq (a ∷ b ∷ []) l i h
     ∙ append-assoc (take i l) (a ∷ b ∷ []) (drop (i + 2) l))
 
-pub three-stores : (l : List ℕ) (i a b c : ℕ) → i + 3 ≤ length l → set (set (set l i a) (i + 1) b) (i + 2) c ≡ over l i
-    (a ∷ b ∷ c ∷ [])
-three-stores l i a b c h =
-    let two : i + 2 ≡ suc (suc i) = omega arith in
-    ap (λ n. set (set (set l i a) n b) (i + 2) c) (add-one i) ∙ (ap (λ n. set (set (set l i a) (suc i) b) n c) two
-    ∙ (sets-eq (a ∷ b ∷ c ∷ []) l i h ∙ append-assoc (take i l) (a ∷ b ∷ c ∷ []) (drop (i + 3) l)))
+-- Numbers in place of others, and more behind them.
+module _ (l : List ℕ) (i : ℕ) (new : List ℕ) (h : i + length new ≤ length l) where
+  split : over l i new ≡ (take i l ++ new) ++ drop (i + length new) l
+  split = sym (append-assoc (take i l) new (drop (i + length new) l))
 
-pub six-stores : (l : List ℕ) (i a b c d e f : ℕ) → i + 6 ≤ length l
-    → set (set (set (set (set (set l i a) (i + 1) b) (i + 2) c) (i + 2 + 1) d) (i + 2 + 2) e) (i + 2 + 2 + 1) f ≡ over l i
-    (a ∷ b ∷ c ∷ d ∷ e ∷ f ∷ [])
-six-stores l i a b c d e f h =
-    let at1 : i + 1 ≡ suc i = omega arith in
-    let at2 : i + 2 ≡ suc (suc i) = omega arith in
-    let at3 : i + 2 + 1 ≡ suc (suc (suc i)) = omega arith in
-    let at4 : i + 2 + 2 ≡ suc (suc (suc (suc i))) = omega arith in
-    let at5 : i + 2 + 2 + 1 ≡ suc (suc (suc (suc (suc i)))) = omega arith in
-    ap (λ n. set (set (set (set (set (set l i a) (i + 1) b) (i + 2) c) (i + 2 + 1) d) (i + 2 + 2) e) n f) at5
-    ∙ (ap (λ n. set (set (set (set (set (set l i a) (i + 1) b) (i + 2) c) (i + 2 + 1) d) n e) (suc (suc (suc (suc (suc i))))) f)
-    at4
-    ∙ (ap (λ n. set (set (set (set (set (set l i a) (i + 1) b) (i + 2) c) n d) (suc (suc (suc (suc i)))) e)
-    (suc (suc (suc (suc (suc i))))) f) at3
-    ∙ (ap (λ n. set (set (set (set (set (set l i a) (i + 1) b) n c) (suc (suc (suc i))) d) (suc (suc (suc (suc i)))) e)
-    (suc (suc (suc (suc (suc i))))) f) at2
-    ∙ (ap (λ n. set (set (set (set (set (set l i a) n b) (suc (suc i)) c) (suc (suc (suc i))) d) (suc (suc (suc (suc i)))) e)
-    (suc (suc (suc (suc (suc i))))) f) at1
-    ∙ (sets-eq (a ∷ b ∷ c ∷ d ∷ e ∷ f ∷ []) l i h ∙ append-assoc (take i l) (a ∷ b ∷ c ∷ d ∷ e ∷ f ∷ []) (drop (i + 6) l))))))
+  long : length (take i l ++ new) ≡ i + length new
+  long = length-append (take i l) new ∙ omega (arith, length-take-le i l (omega arith))
+
+  pub over-length : length (over l i new) ≡ length l
+  over-length = ap length split ∙ (length-append (take i l ++ new) (drop (i + length new) l)
+      ∙ omega (arith, long, length-drop (i + length new) l))
+
+  pub over-more : (more : List ℕ) → over (over l i new) (i + length new) more ≡ over l i (new ++ more)
+  over-more more =
+      let at : ℕ = i + length new in
+      let first : take at (over l i new) ≡ take i l ++ new =
+      ap (take at) split ∙ take-at (take i l ++ new) (drop at l) at long in
+      let behind : drop at (over l i new) ≡ drop at l = ap (drop at) split ∙ drop-at (take i l ++ new) (drop at l) at long in
+      let last : drop (at + length more) (over l i new) ≡ drop (at + length more) l =
+      sym (drop-drop (length more) at (over l i new)) ∙ (ap (drop (length more)) behind ∙ drop-drop (length more) at l) in
+      let place : at + length more ≡ i + length (new ++ more) = omega (arith, length-append new more) in
+      ap (λ m. m ++ (more ++ drop (at + length more) (over l i new))) first
+      ∙ (ap (λ m. (take i l ++ new) ++ (more ++ m)) (last ∙ ap (λ n. drop n l) place)
+      ∙ (append-assoc (take i l) new (more ++ drop (i + length (new ++ more)) l)
+      ∙ ap (λ m. take i l ++ m) (sym (append-assoc new more (drop (i + length (new ++ more)) l)))))

@@ -7,23 +7,28 @@ use native.Mathlib.Omega.{arith}
 use native.Mathlib.Decide.{ℕ-discrete}
 use lib.Dec.{eqb, ltb}
 use lib.ListN.{length, take, drop}
-use lib.Seq.{take-at, drop-drop, drop-append-add, length-take-le}
+use lib.Seq.{take-at, drop-drop, drop-append-add}
 use borrow.Author.Tests.{eq-eqb, ne-eqb, lt-ltb, le-ltb, ltb-false}
 use Rattle.rdfs.specs.Numbers.{product}
 use Rattle.rdfs.specs.Lists.{concatMap}
 use Rattle.rdfs.specs.Words.{filled}
-use Rattle.rdfs.specs.Register.{orElse, tableRefusal, Table}
-use Rattle.rdfs.proofs.Refusals.{passed-link}
-use Rattle.rdfs.proofs.Steps.{table-passes, table-stops, checked-table}
-use Rattle.table.proofs.Answers.{is-false}
-use Rattle.contents.specs.Form.{form, firstBody}
+use Rattle.rdfs.specs.Refusals.{orElse, tableRefusal}
+use Rattle.rdfs.specs.Register.{Table}
+use Rattle.rdfs.proofs.tickets.FirstTrue.{passed-link}
+use Rattle.rdfs.proofs.tickets.Steps.{table-passes, table-stops, checked-table}
+use Rattle.table.proofs.TestAnswers.{is-false}
+use Rattle.contents.specs.ImageForm.{form, firstBody}
 use Rattle.contents.specs.Image.{idBytes}
-use Rattle.writing.specs.Calls.{tableImage, writeAnswer, writeLength, writeBytes, WritePromise}
-use Rattle.writing.specs.Writing.{Writable}
+use Rattle.writing.specs.WritePromise.{tableImage, writeAnswer, writeLength, writeBytes, WritePromise}
+use Rattle.writing.specs.KindEnds.{contentsBy, KindEndsOf}
+use Rattle.writing.specs.Writing.{Writing}
+use Rattle.contents.proofs.Product.{complete}
 use Rattle.writing.proofs.Measuring.{image-whole}
+use Rattle.writing.proofs.EndsLaws.{contents-long, ends-contents}
 
-pub table-writable : {t : List ℕ} → Table product t → (n : ℕ) → n ≡ length (filled t) → Writable t n
-table-writable h n q = record { counted = record { laid = h .laid; size = q }; few = h .fits }
+pub table-writing : {t : List ℕ} → Table product t → (n : ℕ) → n ≡ length (filled t) → Writing form t n
+table-writing h n q =
+    record { form = complete; writable = record { counted = record { laid = h .laid; size = q }; few = h .fits } }
 
 module _ (t out : List ℕ) where
   refused : (n : ℕ) → n ≡ writeAnswer t out → (n ≡ 0 → ⊥) → WritePromise t out (record { answer = n; length = 0 }) out
@@ -82,21 +87,24 @@ module _ (t out : List ℕ) where
 
 -- The bytes after the contents are stored: those before the first body are the image's, and those after the image are as they
 -- were.
-module _ (t : List ℕ) (n : ℕ) (c : Writable t n) (out mid : List ℕ) (e : mid ≡ take (firstBody form) (tableImage t) ++ drop
-    (firstBody form) out) where
-  long : length (take (firstBody form) (tableImage t)) ≡ firstBody form
-  long = length-take-le (firstBody form) (tableImage t) (omega (arith, image-whole t n c))
+module _ {t : List ℕ} {n : ℕ} {ends : List ℕ} (w : Writing form t n) (f : KindEndsOf form t n ends) (out mid : List ℕ)
+    (e : mid ≡ contentsBy form ends ++ drop (firstBody form) out) where
+  abbrev first : List ℕ
+  first = contentsBy form ends
+
+  long : length first ≡ firstBody form
+  long = contents-long form ends
 
   pub stored-first : take (firstBody form) mid ≡ take (firstBody form) (tableImage t)
-  stored-first = ap (take (firstBody form)) e ∙ take-at (take (firstBody form) (tableImage t)) (drop (firstBody form) out)
-      (firstBody form) long
+  stored-first = ap (take (firstBody form)) e ∙ (take-at first (drop (firstBody form) out) (firstBody form) long
+      ∙ ends-contents w f)
 
   pub stored-after : drop (length (tableImage t)) mid ≡ drop (length (tableImage t)) out
   stored-after =
       let m : ℕ = length (concatMap (idBytes product form) (filled t)) in
-      let size : length (tableImage t) ≡ firstBody form + m = image-whole t n c in
-      let place : firstBody form + m ≡ length (take (firstBody form) (tableImage t)) + m = omega (arith, long) in
+      let size : length (tableImage t) ≡ firstBody form + m = image-whole complete t n (w .writable) in
+      let place : firstBody form + m ≡ length first + m = omega (arith, long) in
       ap (λ k. drop k mid) size ∙ (ap (drop (firstBody form + m)) e
-      ∙ (ap (λ k. drop k (take (firstBody form) (tableImage t) ++ drop (firstBody form) out)) place
-      ∙ (drop-append-add (take (firstBody form) (tableImage t)) (drop (firstBody form) out) m ∙ (drop-drop m (firstBody form) out
+      ∙ (ap (λ k. drop k (first ++ drop (firstBody form) out)) place
+      ∙ (drop-append-add first (drop (firstBody form) out) m ∙ (drop-drop m (firstBody form) out
       ∙ ap (λ k. drop k out) (sym size)))))

@@ -1,2 +1,3 @@
-pub mod Calls
+pub mod WritePromise
+pub mod KindEnds
 pub mod Writing

@@ -5,17 +5,23 @@
 // check. It requires a consistent table. The crate assumes nothing.
 ghost use Rattle.rdfs.specs.Numbers.{product};
 ghost use Rattle.rdfs.specs.Register.{Table};
-ghost use Rattle.writing.specs.Calls.{WritePromise};
+ghost use Rattle.writing.specs.WritePromise.{WritePromise};
 
 mod writer;
 
 use consistency::check;
+use contents::FORM;
+use table::KINDS;
 use table::SHORT_OUTPUT;
 use table::Word;
 use table::count_facts;
+use writer::find_ends;
 use writer::image_length;
 use writer::put_bodies;
 use writer::put_contents;
+
+// A place for each kind, and one for 0.
+const ENDS: usize = KINDS as usize + 1;
 
 // What writing answers: 0 or a refusal, and the image's length, 0 on refusal.
 pub struct Written {
@@ -25,31 +31,35 @@ pub struct Written {
 
 // Writes the image of a table. The bytes after it are untouched. Refused with 1, 2, 3 or 13, all bytes are as
 // they were.
-pub fn write(t: &[Word], output: &mut [u8]) -> Written
-    ensures { λ r. ⌜ WritePromise (now (t .entry)) (now (output .entry)) r (now (output .exit)) ⌝ }
+pub fn write(table: &[Word], output: &mut [u8]) -> Written
+    ensures promise { λ r. ⌜ WritePromise (now (table .entry)) (now (output .entry)) r
+        (now (output .exit)) ⌝ }
 {
-    let answer = check(t);
+    let answer = check(table);
     if answer != 0 {
         return Written { answer, length: 0 };
     }
-    write_checked(t, output)
+    write_checked(table, output)
 }
 
 // The same for a table known to be consistent: only 13 can come.
-pub fn write_checked(t: &[Word], output: &mut [u8]) -> Written
-    requires { ⌜ Table product (now t) ⌝ }
-    ensures { λ r. ⌜ WritePromise (now (t .entry)) (now (output .entry)) r (now (output .exit)) ⌝ }
+pub fn write_checked(table: &[Word], output: &mut [u8]) -> Written
+    requires table { ⌜ Table product (now table) ⌝ }
+    ensures promise { λ r. ⌜ WritePromise (now (table .entry)) (now (output .entry)) r
+        (now (output .exit)) ⌝ }
 {
-    let n = count_facts(t);
-    let length = image_length(t, n);
+    let count = count_facts(table);
+    let mut ends: [usize; ENDS] = [0; ENDS];
+    find_ends(FORM, table, count, &mut ends);
+    let length = image_length(FORM, &ends);
     if output.len() < length {
         return Written {
             answer: SHORT_OUTPUT,
             length: 0,
         };
     }
-    put_contents(t, n, output);
-    put_bodies(t, n, output);
+    put_contents(FORM, &ends, output);
+    put_bodies(FORM, table, &ends, output);
     Written {
         answer: 0,
         length: length as u16,

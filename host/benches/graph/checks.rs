@@ -27,10 +27,15 @@ pub fn measure(settings: &Settings, subjects: &[Subject]) -> Vec<Line> {
     let share = |own: &Readings| own.iter().map(|time| time / ROUNDS as f64).collect();
     let shares: Vec<Readings> = readings.iter().map(share).collect();
     let name = |subject: &Subject| format!("{}, {} facts", subject.name, subject.facts);
-    subjects.iter().zip(shares.chunks(NAMES.len())).map(|(subject, own)| Line::of(name(subject), own)).collect()
+    subjects
+        .iter()
+        .zip(shares.chunks(NAMES.len()))
+        .map(|(subject, own)| Line::of(name(subject), own))
+        .collect()
 }
 
-/// A rival's program: the image comes from standard input, and the number of checks that accepted its table is printed.
+/// A rival's program: the image comes from standard input, and the number of checks that accepted its table
+/// is printed.
 pub fn run(check: fn(&[u32]) -> u8, mut input: impl Read, mut output: impl Write) -> Result<()> {
     let mut image = Vec::new();
     input.read_to_end(&mut image)?;

@@ -1,5 +1,5 @@
-//! Interleaved repetitions: within each repetition every candidate is run once, and each repetition starts with another
-//! one, so that a disturbance of the machine meets all alike.
+//! Interleaved repetitions: within each repetition every candidate is run once, and each repetition starts
+//! with another one, so that a disturbance of the machine meets all alike.
 
 use std::fs;
 use std::hint::black_box;
@@ -52,8 +52,8 @@ pub fn repeated<'a, T>(slice: Duration, mut work: impl FnMut() -> T + 'a) -> Run
     Box::new(move || timed(times) as f64 / times as f64)
 }
 
-/// Runs a process to its end and answers the nanoseconds that it was on a processor, or those by the wall clock where
-/// the system does not tell.
+/// Runs a process to its end and answers the nanoseconds that it was on a processor, or those by the wall
+/// clock where the system does not tell.
 pub fn processor_time(mut command: Command) -> f64 {
     let start = Instant::now();
     let mut child = command.stderr(Stdio::piped()).spawn().expect("the program starts");

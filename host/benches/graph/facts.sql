@@ -1,5 +1,6 @@
--- A table of facts whose triggers carry the side effects of an insertion. A clash raises 10 and an unknown property 9,
--- which undoes the statement. Deletion, the form of a ticket and the bound of 2,048 facts are not here.
+-- A table of facts whose triggers carry the side effects of an insertion. A clash raises 10 and an unknown
+-- property 9, which undoes the statement. Deletion, the form of a ticket and the bound of 2,048 facts are not
+-- here.
 PRAGMA recursive_triggers = ON;
 CREATE TABLE fact (k INTEGER, a INTEGER, b INTEGER, c INTEGER, PRIMARY KEY (k, a, b, c)) WITHOUT ROWID;
 CREATE INDEX by_b ON fact (k, b);
@@ -34,14 +35,17 @@ END;
 
 -- Refusal 9, rules 21, 20, H4, 22, 23 and 27.
 CREATE TRIGGER subproperty AFTER INSERT ON fact WHEN NEW.k = 6 BEGIN
-  SELECT RAISE(ABORT, '9') WHERE (SELECT count(*) FROM fact WHERE k = 2 AND a IN (NEW.a, NEW.b)) < 1 + (NEW.a <> NEW.b);
+  SELECT RAISE(ABORT, '9')
+    WHERE (SELECT count(*) FROM fact WHERE k = 2 AND a IN (NEW.a, NEW.b)) < 1 + (NEW.a <> NEW.b);
   SELECT RAISE(ABORT, '10') WHERE NEW.a = NEW.b;
   SELECT RAISE(ABORT, '10') FROM fact WHERE k = 6 AND a = NEW.b AND b = NEW.a;
-  SELECT RAISE(ABORT, '10') FROM fact x, fact y WHERE x.k = 8 AND x.a = NEW.a AND y.k = 8 AND y.a = NEW.b AND (x.b = 1) <> (y.b = 1);
+  SELECT RAISE(ABORT, '10') FROM fact x, fact y
+    WHERE x.k = 8 AND x.a = NEW.a AND y.k = 8 AND y.a = NEW.b AND (x.b = 1) <> (y.b = 1);
   INSERT OR IGNORE INTO fact SELECT 6, NEW.a, b, 0 FROM fact WHERE k = 6 AND a = NEW.b;
   INSERT OR IGNORE INTO fact SELECT 6, a, NEW.b, 0 FROM fact WHERE k = 6 AND b = NEW.a;
   INSERT OR IGNORE INTO fact SELECT 5, x.b, y.b, 0 FROM fact x, fact y
-    WHERE x.k IN (7, 8) AND x.a = NEW.a AND y.k = x.k AND y.a = NEW.b AND x.b <> y.b AND x.b <> 1 AND y.b <> 1;
+    WHERE x.k IN (7, 8) AND x.a = NEW.a AND y.k = x.k AND y.a = NEW.b
+      AND x.b <> y.b AND x.b <> 1 AND y.b <> 1;
   INSERT OR IGNORE INTO fact SELECT 10, a, b, NEW.b FROM fact WHERE k = 10 AND c = NEW.a;
 END;
 

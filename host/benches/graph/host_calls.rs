@@ -35,14 +35,16 @@ pub fn measure(settings: &Settings, subjects: &[Subject]) -> Vec<Measured> {
 }
 
 impl Measured {
-    /// Sorts the readings of one graph: each call's by candidate, the last call being that which reads and checks.
+    /// Sorts the readings of one graph: each call's by candidate, the last call being that which reads and
+    /// checks.
     fn of(subject: &Subject, calls: &[Call], readings: &[Readings]) -> Measured {
         let facts = subject.facts;
         let graph = format!("{}, {facts} facts", subject.name);
         let each = calls.iter().zip(readings.chunks(HOST_CALLS.len()));
-        let mut calls: Vec<Line> = each.map(|(call, own)| Line::of(format!("{graph}: {}", call.name), own)).collect();
+        let mut calls: Vec<Line> =
+            each.map(|(call, own)| Line::of(format!("{graph}: {}", call.name), own)).collect();
         calls.pop();
-        let mean = Line::mean(format!("{graph}: mean of the five"), &calls);
+        let mean = Line::mean(format!("{graph}: mean of five"), &calls);
         let read_and_check = Line::of(graph, &readings[readings.len() - HOST_CALLS.len()..]);
         Measured { facts, calls, mean, read_and_check }
     }

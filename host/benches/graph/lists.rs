@@ -4,16 +4,18 @@ use crate::plant::{Bytes, Plant};
 use crate::rivals::fact::*;
 use crate::sequence::Sequence;
 
-/// Tickets drawn from all bytes that come near: operation 1 or 2, kinds 1 to 10, ids 0 to 31. Most are refused.
+/// Tickets drawn from all bytes that come near: operation 1 or 2, kinds 1 to 10, ids 0 to 31. Most are
+/// refused.
 pub fn mostly_bad(count: usize) -> Vec<u8> {
     let mut random = Sequence::of_seed(1);
     let mut draw = || [2, 10, 32, 32, 32].map(|end| random.below(end) as u8);
-    let tickets = (0..count).map(|_| draw()).map(|[operation, kind, a, b, c]| [operation + 1, kind + 1, a, b, c]);
+    let tickets =
+        (0..count).map(|_| draw()).map(|[operation, kind, a, b, c]| [operation + 1, kind + 1, a, b, c]);
     tickets.collect::<Vec<Bytes>>().concat()
 }
 
-/// Plants that fill a table of 2,048 words, each taken down again by deletions, the last ticket first. Every second one
-/// is in any order that puts the properties first.
+/// Plants that fill a table of 2,048 words, each taken down again by deletions, the last ticket first. Every
+/// second one is in any order that puts the properties first.
 pub fn plants(count: usize) -> Vec<u8> {
     plants_with(count, |tickets| [taken_down(tickets), cleared(tickets)].concat())
 }
@@ -60,7 +62,9 @@ fn cleared(tickets: &[Bytes]) -> Vec<Bytes> {
 /// The ids of a sort that a plant's ticket names, as far as its form tells.
 fn ids_of(sort: u8, &[_, kind, a, b, _]: &Bytes) -> Vec<u8> {
     match (sort, kind) {
-        (CLASS, CLASS | SUBCLASS) | (PROPERTY, PROPERTY) | (INDIVIDUAL, MEMBER) | (LITERAL, LITERAL) => vec![a],
+        (CLASS, CLASS | SUBCLASS) | (PROPERTY, PROPERTY) | (INDIVIDUAL, MEMBER) | (LITERAL, LITERAL) => {
+            vec![a]
+        }
         (LITERAL, VALUE) => vec![b],
         _ => Vec::new(),
     }

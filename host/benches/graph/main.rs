@@ -1,5 +1,6 @@
-//! The benchmark: the proved implementation beside two rivals and SQLite, in one run. `--quick` measures little,
-//! `--write` writes the report to docs/, `--program NAME` is a rival's program one, `--check NAME` its check of one table.
+//! The benchmark: the proved implementation beside two rivals and SQLite, in one run. `--quick` measures
+//! little, `--write` writes the report to docs/, `--program NAME` is a rival's program one, `--check NAME`
+//! its check of one table.
 
 // `std::hint::black_box` is of Rust 1.66; the tests do without.
 #![allow(clippy::incompatible_msrv)]

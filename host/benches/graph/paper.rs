@@ -1,5 +1,6 @@
-//! The graph (5,5) of source document 000, section 7: five classes and five properties, each pair linked, with five
-//! instances at the bottom, ten at the next, and so on; beside them one loose class and one loose property.
+//! The graph (5,5) of source document 000, section 7: five classes and five properties, each pair linked,
+//! with five instances at the bottom, ten at the next, and so on; beside them one loose class and one loose
+//! property.
 
 use crate::plant::Bytes;
 use crate::rivals::fact::*;
@@ -14,7 +15,9 @@ pub fn tickets() -> Vec<Bytes> {
     let mut tickets: Vec<Bytes> = CLASSES.map(|class| [1, CLASS, class, 0, 0]).to_vec();
     tickets.push([1, CLASS, LOOSE.0, 0, 0]);
     tickets.extend(links(SUBCLASS, &CLASSES));
-    tickets.extend(PROPERTIES.iter().zip(CLASSES).map(|(property, class)| [1, PROPERTY, *property, class, class]));
+    tickets.extend(
+        PROPERTIES.iter().zip(CLASSES).map(|(property, class)| [1, PROPERTY, *property, class, class]),
+    );
     tickets.push([1, PROPERTY, LOOSE.1, LOOSE.0, LOOSE.0]);
     tickets.extend(links(SUBPROPERTY, &PROPERTIES));
     let placed = (0..25).map(|place: u8| (FIRST_INDIVIDUAL + place, usize::from(place / 5)));
@@ -25,7 +28,8 @@ pub fn tickets() -> Vec<Bytes> {
 
 /// A link for each couple, the earlier under the later.
 fn links(kind: u8, ids: &[u8]) -> Vec<Bytes> {
-    let couples = ids.iter().enumerate().flat_map(|(place, low)| ids[place + 1..].iter().map(move |high| (low, high)));
+    let couples =
+        ids.iter().enumerate().flat_map(|(place, low)| ids[place + 1..].iter().map(move |high| (low, high)));
     couples.map(|(low, high)| [1, kind, *low, *high, 0]).collect()
 }
 

@@ -1,5 +1,6 @@
-//! Plant graphs: a tree of classes, properties with domains and ranges and properties under them, individuals (devices,
-//! ports, containers) in the classes, values between them, and literals. The same seed gives the same tickets.
+//! Plant graphs: a tree of classes, properties with domains and ranges and properties under them, individuals
+//! (devices, ports, containers) in the classes, values between them, and literals. The same seed gives the
+//! same tickets.
 
 use crate::rivals::fact::*;
 use crate::rivals::sorted::Sorted;
@@ -110,7 +111,11 @@ impl Plant {
             } else {
                 let upper = self.parents.len().min(8);
                 let domain = FIRST_CLASS + self.random.below(upper) as u8;
-                let range = if self.random.is_one_in(4) { MARK } else { FIRST_CLASS + self.random.below(upper) as u8 };
+                let range = if self.random.is_one_in(4) {
+                    MARK
+                } else {
+                    FIRST_CLASS + self.random.below(upper) as u8
+                };
                 self.properties.push((domain, range));
                 self.offer([1, PROPERTY, property, domain, range]);
             }
@@ -120,7 +125,8 @@ impl Plant {
     /// The class or one directly under it; the mark stays.
     fn class_under(&mut self, class: u8) -> u8 {
         let classes = (FIRST_CLASS..).zip(&self.parents);
-        let mut near: Vec<u8> = classes.filter(|(_, (over, _))| *over == class).map(|(under, _)| under).collect();
+        let mut near: Vec<u8> =
+            classes.filter(|(_, (over, _))| *over == class).map(|(under, _)| under).collect();
         near.push(class);
         match class {
             MARK => MARK,
@@ -135,8 +141,8 @@ impl Plant {
         }
     }
 
-    /// Values between members of the properties' ends, and where these run out one more individual, until the graph is
-    /// full or there are no more ids.
+    /// Values between members of the properties' ends, and where these run out one more individual, until the
+    /// graph is full or there are no more ids.
     fn draw_values(&mut self, literals: usize) {
         while self.table.count_facts() < self.most {
             let found = (0..TRIES).any(|_| self.draw_value(literals));

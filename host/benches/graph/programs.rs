@@ -23,15 +23,19 @@ pub fn file_of(name: &str) -> PathBuf {
     Path::new(env!("CARGO_TARGET_TMPDIR")).join(name.replace(' ', "-"))
 }
 
-/// All programs print the same on each list; then they are timed, their output thrown away, each once on each list
-/// within every repetition.
+/// All programs print the same on each list; then they are timed, their output thrown away, each once on each
+/// list within every repetition.
 pub fn measure(settings: &Settings, lists: &[(&str, Vec<u8>)]) -> Vec<Measured> {
     let paths: Vec<PathBuf> = lists.iter().map(|(name, list)| written(name, list)).collect();
     let accepted: Vec<usize> = paths.iter().map(|path| count_accepted(path)).collect();
     let each = paths.iter().flat_map(|path| NAMES.map(|candidate| timed(candidate, path)));
     let readings = interleaved(settings.processes, &mut each.collect::<Vec<Run>>());
     let own = readings.chunks(NAMES.len()).zip(accepted);
-    lists.iter().zip(own).map(|((name, list), (own, accepted))| Measured::of(name, list, accepted, own)).collect()
+    lists
+        .iter()
+        .zip(own)
+        .map(|((name, list), (own, accepted))| Measured::of(name, list, accepted, own))
+        .collect()
 }
 
 impl Measured {
@@ -60,7 +64,8 @@ fn count_accepted(path: &Path) -> usize {
 
 fn output_of(candidate: &str, path: &Path) -> Vec<u8> {
     let input = File::open(path).expect("the list is there");
-    let output = program_one(candidate).stdin(input).stderr(Stdio::inherit()).output().expect("the program starts");
+    let output =
+        program_one(candidate).stdin(input).stderr(Stdio::inherit()).output().expect("the program starts");
     assert!(output.status.success(), "{candidate}: {:?}", output.status);
     output.stdout
 }

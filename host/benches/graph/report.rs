@@ -9,8 +9,29 @@ use crate::programs;
 use crate::settings::Settings;
 use crate::sqlite;
 use crate::subjects::{Subject, SIZES};
-use crate::tables::{laid_out, shown, table, Line, Unit};
+use crate::tables::{filled, laid_out, shown, table, Line, Unit};
 use std::fs;
+
+/// The tickets of the host calls.
+const TICKETS: &str =
+    "An image is read and checked, a ticket applied, the new image written. The tickets: a \
+                       new individual in a class, which leaves the graph with the facts stated; the same \
+                       again; an unused byte that is not 0 (7); a class link that closes a circle (10); the \
+                       deletion of an individual.";
+
+/// The lists for program one.
+const LISTS: &str =
+    "As a process that reads a file; its output is thrown away while the clock runs. `mostly \
+                     bad`: kinds 1 to 10 and ids 0 to 31 drawn freely. `plants`: plants that fill a table of \
+                     2,048 words, each taken down ticket by ticket. `plants, filled`: the same, but cleared \
+                     by deleting each id. `dense`: insertions and deletions among 31 ids.";
+
+/// The work that SQLite does.
+const SQLITE_WORK: &str = "A smaller piece of work than program one's: insertions of good form only, by \
+                           triggers that carry the side effects, in one transaction on a database in memory, \
+                           through the command `sqlite3`. No deletion, no bound of 2,048 facts, no answers \
+                           printed. Each ticket is a statement of its own. The table at the end is the same. \
+                           Least of three runs, the start of the process taken off.";
 
 /// The report and the picture.
 pub struct Report {
@@ -38,38 +59,37 @@ fn head(settings: &Settings) -> String {
     let model = cpu.lines().find_map(|line| line.strip_prefix("model name")).unwrap_or(": unknown");
     let model = model.trim_start_matches([' ', '\t', ':']);
     let Settings { slices, processes, slice, .. } = settings;
+    let method = format!(
+        "Written by `cargo bench --offline -- --write` in `host/`. Processor: {model}. Times are medians: of \
+         {slices} readings of a host call by the wall clock (each {slice:?} of calls) and {processes} of a \
+         process by its processor time. The candidates take turns within each repetition, and each \
+         repetition starts with another one; a ratio is the median of the repetitions' ratios, that of a \
+         mean the ratio of the means. All answers, outputs and tables are compared in the run."
+    );
     format!(
-        "# Benchmark\n\nWritten by `cargo bench --offline -- --write` in `host/`. Processor: {model}.\nTimes are medians: \
-         of {slices} readings of a host call by the wall clock (each {slice:?} of calls) and {processes} of a process \
-         by its\nprocessor time. The candidates take turns within each repetition, and each repetition starts with \
-         another one; a ratio\nis the median of the repetitions' ratios, that of a mean the ratio of the means. All \
-         answers, outputs and tables are\ncompared in the run.\n\n- `proved`: the library behind the C interface, and \
-         program one.\n- `sorted`: plain safe Rust, the words sorted in a `Vec` and searched.\n- `bit rows`: plain safe \
-         Rust, sets of 256 bits, written for speed.\n"
+        "# Benchmark\n\n{}\n- `proved`: the library behind the C interface, and program one.\n- `sorted`: \
+         plain safe Rust, the words sorted in a `Vec` and searched.\n- `bit rows`: plain safe Rust, sets of \
+         256 bits, written for speed.\n",
+        filled(&method)
     )
 }
 
 fn host_calls_part(graphs: &[host_calls::Measured]) -> String {
-    let text = String::from(
-        "\n## The host call\n\nAn image is read and checked, a ticket applied, the new image written. The \
-         tickets: a new individual in a class, which\nleaves the graph with the facts stated; the same again; \
-         an unused byte that is not 0 (7); a class link that closes\na circle (10); the deletion of an \
-         individual.\n\n",
-    );
     let mut lines = Vec::new();
     for measured in graphs {
         lines.extend(measured.calls.iter().cloned());
         lines.push(measured.mean.clone());
     }
-    text + &table("host call", Unit::Microseconds, &lines)
+    let table = table("host call", Unit::Microseconds, &lines);
+    format!("\n## The host call\n\n{}\n{table}", filled(TICKETS))
 }
 
 fn checks_part(settings: &Settings, subjects: &[Subject], graphs: &[host_calls::Measured]) -> String {
     let read: Vec<Line> = graphs.iter().map(|measured| measured.read_and_check.clone()).collect();
     format!(
-        "\n## The check\n\nThe check of a table of 2,048 words: a process reads an image and checks its table 5,000 \
-         times.\n\n{}\nThe host call with an empty ticket reads the image and checks the graph before it refuses \
-         (4).\n\n{}",
+        "\n## The check\n\nThe check of a table of 2,048 words: a process reads an image and checks its \
+         table 5,000 times.\n\n{}\nThe host call with an empty ticket reads the image and checks the graph \
+         before it refuses (4).\n\n{}",
         table("check", Unit::Microseconds, &checks::measure(settings, subjects)),
         table("read and check", Unit::Microseconds, &read)
     )
@@ -110,14 +130,14 @@ fn programs_part(settings: &Settings) -> String {
     let mut measured = programs::measure(settings, &lists);
     let start = measured.pop().expect("the last list is empty").line;
     let mut rows = vec![["list", "tickets", "accepted"].map(String::from).to_vec()];
-    rows.extend(measured.iter().map(|m| vec![m.line.work.clone(), m.tickets.to_string(), m.accepted.to_string()]));
+    rows.extend(
+        measured.iter().map(|m| vec![m.line.work.clone(), m.tickets.to_string(), m.accepted.to_string()]),
+    );
     let lines: Vec<Line> = measured.into_iter().map(|m| m.line).collect();
     format!(
-        "\n## Program one\n\nAs a process that reads a file; its output is thrown away while the clock runs. \
-         `mostly bad`: kinds 1 to 10 and ids 0 to 31\ndrawn freely. `plants`: plants that fill a table of 2,048 \
-         words, each taken down ticket by ticket. `plants, filled`: the\nsame, but cleared by deleting each id. \
-         `dense`: insertions and deletions among 31 ids.\n\n{}\nTime for one ticket:\n\n{}\nTime to start and \
-         end without tickets, which is within the times above:\n\n{}",
+        "\n## Program one\n\n{}\n{}\nTime for one ticket:\n\n{}\nTime to start and end without tickets, \
+         which is within the times above:\n\n{}",
+        filled(LISTS),
         laid_out(&rows),
         table("list", Unit::Nanoseconds, &lines),
         table("process", Unit::Microseconds, &[start])
@@ -133,17 +153,12 @@ fn sqlite_part(settings: &Settings) -> String {
     let plant = lists::plants(1);
     let plant = sqlite::insertions(&plant, most);
     let dense = sqlite::insertions(&lists::dense(2 * most), most);
-    let mut rows = vec![["insertions of", "tickets", "facts at the end", "a ticket"].map(String::from).to_vec()];
+    let mut rows =
+        vec![["insertions of", "tickets", "facts at the end", "a ticket"].map(String::from).to_vec()];
     for (name, tickets) in [("the first plant", plant), ("dense", dense)] {
         let m = sqlite::measure(name, &tickets);
         let time = shown(Unit::Microseconds, m.time);
         rows.push(vec![name.to_string(), m.tickets.to_string(), m.facts.to_string(), time]);
     }
-    format!(
-        "{head}A smaller piece of work than program one's: insertions of good form only, by triggers that carry \
-         the side effects, in\none transaction on a database in memory, through the command `sqlite3`. No \
-         deletion, no bound of 2,048 facts, no answers\nprinted. Each ticket is a statement of its own. The table \
-         at the end is the same. Least of three runs, the start of the\nprocess taken off.\n\n{}",
-        laid_out(&rows)
-    )
+    format!("{head}{}\n{}", filled(SQLITE_WORK), laid_out(&rows))
 }

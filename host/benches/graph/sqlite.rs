@@ -1,5 +1,5 @@
-//! SQLite with triggers that carry the side effects, through its command, where it is installed. It runs insertions of
-//! good form only, in one transaction on a database in memory.
+//! SQLite with triggers that carry the side effects, through its command, where it is installed. It runs
+//! insertions of good form only, in one transaction on a database in memory.
 
 use crate::clock::processor_time;
 use crate::plant::Bytes;
@@ -23,7 +23,8 @@ pub struct Measured {
 }
 
 pub fn is_installed() -> bool {
-    let status = Command::new("sqlite3").arg("--version").stdout(Stdio::null()).stderr(Stdio::null()).status();
+    let status =
+        Command::new("sqlite3").arg("--version").stdout(Stdio::null()).stderr(Stdio::null()).status();
     matches!(status, Ok(status) if status.success())
 }
 
@@ -34,7 +35,8 @@ pub fn insertions(list: &[u8], most: usize) -> Vec<Bytes> {
     good.take(most).collect()
 }
 
-/// The table at the end is that of `sorted`; the time is the least of a few runs, without that of an empty list.
+/// The table at the end is that of `sorted`; the time is the least of a few runs, without that of an empty
+/// list.
 pub fn measure(name: &str, tickets: &[Bytes]) -> Measured {
     let mut table = Sorted::fresh();
     for ticket in tickets {
@@ -47,7 +49,11 @@ pub fn measure(name: &str, tickets: &[Bytes]) -> Measured {
     let (start, _) = least(&[]);
     let (time, words) = least(tickets);
     assert_eq!(words, table.words(), "the tables differ");
-    Measured { tickets: tickets.len(), facts: words.len(), time: (time - start).max(0.0) / tickets.len() as f64 }
+    Measured {
+        tickets: tickets.len(),
+        facts: words.len(),
+        time: (time - start).max(0.0) / tickets.len() as f64,
+    }
 }
 
 /// The processor's nanoseconds of a process, and the words of its facts at the end.

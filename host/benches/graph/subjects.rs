@@ -54,8 +54,8 @@ impl Subject {
         Subject::of("paper (5,5)", table.image(), &table, tickets)
     }
 
-    /// A plant graph of so many facts, if the drawn ones come so far. The insertion is run on it as it was before, with
-    /// the room that is needed.
+    /// A plant graph of so many facts, if the drawn ones come so far. The insertion is run on it as it was
+    /// before, with the room that is needed.
     pub fn plant(facts: usize) -> Subject {
         let plant = Plant::draw(1, facts - ROOM);
         let open = plant.table().image();
@@ -79,8 +79,8 @@ impl Subject {
         &self.image
     }
 
-    /// The five calls whose mean is reported, and one that reads and checks the image before the ticket is refused for
-    /// its length.
+    /// The five calls whose mean is reported, and one that reads and checks the image before the ticket is
+    /// refused for its length.
     pub fn calls(&self) -> Vec<Call<'_>> {
         let [operation, kind, a, b, _] = self.tickets.repeat;
         let bad_form = [operation, kind, a, b, 7];

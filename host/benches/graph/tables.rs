@@ -1,9 +1,30 @@
-//! Tables of times, as Markdown.
+//! Paragraphs and tables of times, as Markdown.
 
 use crate::candidates::NAMES;
 use crate::clock::{median, Readings};
 
-/// One piece of work and what it takes each candidate, in nanoseconds, with the proved one's ratio to each rival.
+/// No line of the report is longer.
+const WIDTH: usize = 110;
+
+/// A paragraph, broken at the width.
+pub fn filled(text: &str) -> String {
+    let mut lines = vec![String::new()];
+    for word in text.split(' ') {
+        let line = lines.last_mut().expect("there is a line");
+        if line.is_empty() {
+            line.push_str(word);
+        } else if line.chars().count() + 1 + word.chars().count() <= WIDTH {
+            line.push(' ');
+            line.push_str(word);
+        } else {
+            lines.push(word.to_string());
+        }
+    }
+    lines.join("\n") + "\n"
+}
+
+/// One piece of work and what it takes each candidate, in nanoseconds, with the proved one's ratio to each
+/// rival.
 #[derive(Clone)]
 pub struct Line {
     pub work: String,
@@ -12,9 +33,11 @@ pub struct Line {
 }
 
 impl Line {
-    /// From the readings of each candidate: the medians, and the medians of the ratios within each repetition.
+    /// From the readings of each candidate: the medians, and the medians of the ratios within each
+    /// repetition.
     pub fn of(work: String, readings: &[Readings]) -> Line {
-        let ratio = |rival: &Readings| median(readings[0].iter().zip(rival).map(|(own, its)| own / its).collect());
+        let ratio =
+            |rival: &Readings| median(readings[0].iter().zip(rival).map(|(own, its)| own / its).collect());
         Line {
             work,
             times: readings.iter().cloned().map(median).collect(),
@@ -24,7 +47,8 @@ impl Line {
 
     /// The mean of several lines, and its ratios.
     pub fn mean(work: String, lines: &[Line]) -> Line {
-        let mean_of = |column: usize| lines.iter().map(|line| line.times[column]).sum::<f64>() / lines.len() as f64;
+        let mean_of =
+            |column: usize| lines.iter().map(|line| line.times[column]).sum::<f64>() / lines.len() as f64;
         let times: Vec<f64> = (0..lines[0].times.len()).map(mean_of).collect();
         let ratios = times[1..].iter().map(|time| times[0] / time).collect();
         Line { work, times, ratios }

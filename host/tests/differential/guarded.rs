@@ -1,7 +1,7 @@
 //! The host call and the independent implementation on the same bytes, with guard bytes around every buffer.
 
 use crate::independent::host::host_call;
-use vimelosa_host::call_raw;
+use vimelosa_host::{call_raw, Refusal};
 
 const GUARD: [u8; 32] = [0xa5; 32];
 
@@ -35,8 +35,8 @@ fn output_of(length: usize) -> Vec<u8> {
     (0..length).map(|place| 0x80 | place as u8).collect()
 }
 
-/// The number that both give, and the output that both leave. Image and ticket are left as they were, so is every guard,
-/// and so is the output on a refusal and after the image.
+/// The number that both give, and the output that both leave. Image and ticket are left as they were, so is
+/// every guard, and so is the output on a refusal and after the image.
 pub fn same_call(image: &[u8], ticket: &[u8], output_length: usize) -> (u64, Vec<u8>) {
     let mut expected = output_of(output_length);
     let expected_number = host_call(image, ticket, &mut expected);
@@ -53,9 +53,11 @@ pub fn same_call(image: &[u8], ticket: &[u8], output_length: usize) -> (u64, Vec
     (number, expected)
 }
 
-/// A refusal leaves all of the output, an accepted ticket what comes after the image.
+/// A refusal leaves all of the output and has no other part than its number, an accepted ticket leaves what
+/// comes after the image.
 fn assert_untouched(number: u64, output: &[u8]) {
     let length = (number >> 48) as usize;
     assert_eq!(output[length..], output_of(output.len())[length..]);
-    assert!(number as u16 == 0 || number <= 14);
+    let (answer, others) = (number as u16, number >> 16);
+    assert!(answer == 0 || (others == 0 && Refusal::try_from(answer).is_ok()));
 }

@@ -1,5 +1,5 @@
-//! Program one, program two, `run_calls` and the host call beside the independent implementation. VIMELOSA_TEST_ROUNDS
-//! runs each test that many times as long, VIMELOSA_TEST_SEED draws other tickets.
+//! Program one, program two, `run_calls` and the host call beside the independent implementation.
+//! VIMELOSA_TEST_ROUNDS runs each test that many times as long, VIMELOSA_TEST_SEED draws other tickets.
 
 #[path = "../generator/mod.rs"]
 mod generator;

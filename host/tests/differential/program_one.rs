@@ -20,8 +20,8 @@ fn on_random_lists() {
     }
 }
 
-/// Classes one under the other, linked before or after their first members; members until no more fits; literals for the
-/// last words; tickets that clash on the full table; then tickets of all sorts.
+/// Classes one under the other, linked before or after their first members; members until no more fits;
+/// literals for the last words; tickets that clash on the full table; then tickets of all sorts.
 fn filling_list(random: &mut Random) -> Vec<u8> {
     let depth = 14 + random.below(6) as u8;
     let mut tickets: Vec<[u8; 5]> = (2..depth).map(|c| [1, 5, c, c + 1, 0]).collect();
@@ -30,7 +30,13 @@ fn filling_list(random: &mut Random) -> Vec<u8> {
     random.shuffle(&mut tickets);
     tickets.extend((141..=230).map(|x| [1, 9, x, 2, 0]));
     tickets.extend((231..=255).map(|x| [1, 4, x, 0, 0]));
-    tickets.extend([[1, 3, 2, 0, 0], [1, 5, 3, 2, 0], [1, 9, 50, 2, 0], [1, 1, 51, 0, 0], [1, 10, 80, 81, 51]]);
+    tickets.extend([
+        [1, 3, 2, 0, 0],
+        [1, 5, 3, 2, 0],
+        [1, 9, 50, 2, 0],
+        [1, 1, 51, 0, 0],
+        [1, 10, 80, 81, 51],
+    ]);
     let ids = Ids { deletions: 12, ..PLENTY };
     [tickets.concat(), list(random, &ids, 100)].concat()
 }
@@ -82,7 +88,8 @@ fn on_the_suites() {
     let program = Program::one();
     for case in suite_cases() {
         let printed = program.output(&case.list);
-        let numbers: Vec<&str> = printed.lines().filter_map(|line| line.split_once(' ')).map(|(n, _)| n).collect();
+        let numbers: Vec<&str> =
+            printed.lines().filter_map(|line| line.split_once(' ')).map(|(n, _)| n).collect();
         let expected: Vec<String> = case.numbers.iter().map(u8::to_string).collect();
         assert_eq!(numbers, expected, "{}", case.name);
         assert_eq!(printed, print_answers(&case.list), "{}", case.name);
@@ -99,7 +106,9 @@ fn on_the_papers() {
         let (facts, answers) = lines.split_last().expect("the last line is the count");
         let line = |[n, a, r]: &[usize; 3]| format!("{n} {a} {r}");
         match &case.answers {
-            Some(expected) => assert_eq!(answers, expected.iter().map(line).collect::<Vec<_>>(), "{}", case.name),
+            Some(expected) => {
+                assert_eq!(answers, expected.iter().map(line).collect::<Vec<_>>(), "{}", case.name)
+            }
             None => assert!(answers.iter().all(|answer| answer.starts_with("0 ")), "{}", case.name),
         }
         assert_eq!(answers.len(), case.list.len() / 5, "{}", case.name);

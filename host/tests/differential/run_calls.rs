@@ -73,7 +73,11 @@ fn on_full_tables() {
         lines.extend(["words", "write 2000", "back", "same"].map(String::from));
         let tickets: Vec<u8> = (0..5).flat_map(|_| ticket(&mut random, &ids)).collect();
         for name in ["list", "each", "records"] {
-            lines.extend(["back".to_string(), format!("{name} 0006 {}", hexadecimal(&tickets)), "words".to_string()]);
+            lines.extend([
+                "back".to_string(),
+                format!("{name} 0006 {}", hexadecimal(&tickets)),
+                "words".to_string(),
+            ]);
         }
         assert_same(&program, &(lines.join("\n") + "\n"));
     }

@@ -7,10 +7,12 @@ use super::Random;
 use crate::independent::table::fresh_graph;
 use vimelosa_host::LONGEST_IMAGE;
 
-/// Compares the calls with an image, a ticket and an output of a length; their number, and the output that they leave.
+/// Compares the calls with an image, a ticket and an output of a length; their number, and the output that
+/// they leave.
 pub type SameCall = fn(&[u8], &[u8], usize) -> (u64, Vec<u8>);
 
-/// Fifty tickets in turn on what the accepted ones leave of a fresh graph; one output in six is about as long as the image.
+/// Fifty tickets in turn on what the accepted ones leave of a fresh graph; one output in six is about as long
+/// as the image.
 pub fn on_growing_graphs(random: &mut Random, rounds: usize, same_call: SameCall) {
     for round in 0..rounds {
         let mut held = image(&fresh_graph());
@@ -26,7 +28,8 @@ pub fn on_growing_graphs(random: &mut Random, rounds: usize, same_call: SameCall
     }
 }
 
-/// Images changed in one place or another, of graphs that break a rule or two, and with the mark out of place.
+/// Images changed in one place or another, of graphs that break a rule or two, and with the mark out of
+/// place.
 pub fn on_damaged_images(random: &mut Random, rounds: usize, same_call: SameCall) {
     for round in 0..rounds {
         let ids = &ALL_IDS[round % 4];

@@ -2,7 +2,8 @@
 
 use super::Random;
 
-/// An image with one to three changes: bytes put in, taken out or written over, numbers of the contents shifted.
+/// An image with one to three changes: bytes put in, taken out or written over, numbers of the contents
+/// shifted.
 pub fn damaged(random: &mut Random, image: &[u8]) -> Vec<u8> {
     let mut bytes = image.to_vec();
     for _ in 0..1 + random.below(3) {

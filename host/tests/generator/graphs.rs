@@ -38,7 +38,8 @@ pub fn disturbed(random: &mut Random, ids: &Ids, most: usize) -> Graph {
     graph
 }
 
-/// A consistent graph with the mark in place of one of its ids: the rules hold as before, but it is not made of facts.
+/// A consistent graph with the mark in place of one of its ids: the rules hold as before, but it is not made
+/// of facts.
 pub fn marked(random: &mut Random, ids: &Ids) -> Graph {
     let graph = grown(random, ids, 35, 50);
     let used: Vec<u8> = graph.facts().map(|fact| fact.a).collect();
@@ -47,7 +48,8 @@ pub fn marked(random: &mut Random, ids: &Ids) -> Graph {
     Graph::of(graph.facts().map(|f| fact(f.kind, marked(f.a), marked(f.b), marked(f.c))))
 }
 
-/// A graph of exactly `count` facts, with a tree of classes, properties one under the other, members and values.
+/// A graph of exactly `count` facts, with a tree of classes, properties one under the other, members and
+/// values.
 pub fn filled(random: &mut Random, count: usize) -> Graph {
     let start = grown(random, &MANY, 120, count / 2);
     let more_classes: Vec<Fact> = (13..20).map(class).collect();
@@ -77,20 +79,23 @@ fn loose_literal(graph: &Graph) -> Option<Fact> {
     ids.map(literal).find(|fact| !graph.has(*fact))
 }
 
-/// The most bytes that the image of a consistent graph of 2,048 facts has. Values are the longest facts; 17 individuals and
-/// 7 properties with Resource at both ends have room for 2,023 of them. With any other numbers of individuals, properties
-/// and literals either the values find no room or what they need leaves fewer bytes to them.
+/// The most bytes that the image of a consistent graph of 2,048 facts has. Values are the longest facts; 17
+/// individuals and 7 properties with Resource at both ends have room for 2,023 of them. With any other
+/// numbers of individuals, properties and literals either the values find no room or what they need leaves
+/// fewer bytes to them.
 pub const LONGEST_CONSISTENT: usize = 6_125;
 
-/// The graph, with as many values as make its image that long, and literals for the last one or two bytes. They are of
-/// individuals and properties that only this function draws, and the image's length has to leave room for those.
+/// The graph, with as many values as make its image that long, and literals for the last one or two bytes.
+/// They are of individuals and properties that only this function draws, and the image's length has to leave
+/// room for those.
 pub fn of_length(random: &mut Random, start: &Graph, length: usize) -> Graph {
     let (individuals, properties) = (80..=96, 100..=106);
     let ends = |p: u8| [property(p), domain(p, RESOURCE), range(p, RESOURCE)];
     let known = individuals.clone().map(individual).chain(properties.clone().flat_map(ends));
     let mut graph = smallest(start, &known.collect::<Vec<Fact>>()).expect("the ids are free");
     let pairs = individuals.clone().flat_map(|x| individuals.clone().map(move |y| (x, y)));
-    let mut values: Vec<Fact> = pairs.flat_map(|(x, y)| properties.clone().map(move |p| value(x, y, p))).collect();
+    let mut values: Vec<Fact> =
+        pairs.flat_map(|(x, y)| properties.clone().map(move |p| value(x, y, p))).collect();
     random.shuffle(&mut values);
     let missing = length - image(&graph).len();
     graph.put(values.into_iter().take(missing / 3));

@@ -8,15 +8,21 @@ use std::ops::RangeInclusive;
 pub const TICKETS_AT_ONCE: usize = 3_200;
 
 /// So few ids, and so many deletions, that what one ticket puts in another soon takes out.
-const MIXED: Ids =
-    Ids { classes: (2, 8), properties: (9, 12), individuals: (13, 22), literals: (23, 29), strays: 60, deletions: 4 };
+const MIXED: Ids = Ids {
+    classes: (2, 8),
+    properties: (9, 12),
+    individuals: (13, 22),
+    literals: (23, 29),
+    strays: 60,
+    deletions: 4,
+};
 
 /// The classes and the individuals of a tree.
 const TREE: RangeInclusive<u8> = 30..=42;
 const LEAVES: RangeInclusive<u8> = 80..=149;
 
-/// Mixed tickets, one in twenty bad. Where program one has read as many as it reads at once, a tree of 1,154 facts stands as
-/// well, from ten tickets before to ten after.
+/// Mixed tickets, one in twenty bad. Where program one has read as many as it reads at once, a tree of 1,154
+/// facts stands as well, from ten tickets before to ten after.
 pub fn long_list(random: &mut Random, count: usize) -> Vec<[u8; 5]> {
     let mut tickets = Vec::new();
     for end in (TICKETS_AT_ONCE..).step_by(TICKETS_AT_ONCE) {

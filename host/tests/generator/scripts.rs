@@ -118,7 +118,18 @@ fn some_image(random: &mut Random, ids: &Ids) -> Vec<u8> {
 }
 
 fn other_line(random: &mut Random) -> String {
-    let names =
-        ["words", "words", "same", "same", "keep", "back", "facts", "fresh", "read", "unknown", "# passed over"];
+    let names = [
+        "words",
+        "words",
+        "same",
+        "same",
+        "keep",
+        "back",
+        "facts",
+        "fresh",
+        "read",
+        "unknown",
+        "# passed over",
+    ];
     random.pick(&names).to_string()
 }

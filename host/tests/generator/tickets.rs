@@ -16,16 +16,34 @@ pub struct Ids {
 }
 
 /// All sorts share five ids: most insertions clash.
-pub const SHARED: Ids =
-    Ids { classes: (2, 6), properties: (2, 6), individuals: (2, 6), literals: (2, 6), strays: 10, deletions: 3 };
+pub const SHARED: Ids = Ids {
+    classes: (2, 6),
+    properties: (2, 6),
+    individuals: (2, 6),
+    literals: (2, 6),
+    strays: 10,
+    deletions: 3,
+};
 
 /// A handful of ids of each sort.
-pub const FEW: Ids =
-    Ids { classes: (2, 4), properties: (5, 7), individuals: (8, 9), literals: (10, 11), strays: 40, deletions: 5 };
+pub const FEW: Ids = Ids {
+    classes: (2, 4),
+    properties: (5, 7),
+    individuals: (8, 9),
+    literals: (10, 11),
+    strays: 40,
+    deletions: 5,
+};
 
 /// Enough ids for deep trees and chains of properties.
-pub const MANY: Ids =
-    Ids { classes: (2, 12), properties: (20, 27), individuals: (40, 49), literals: (60, 63), strays: 60, deletions: 9 };
+pub const MANY: Ids = Ids {
+    classes: (2, 12),
+    properties: (20, 27),
+    individuals: (40, 49),
+    literals: (60, 63),
+    strays: 60,
+    deletions: 9,
+};
 
 /// Ids in plenty: tables fill.
 pub const PLENTY: Ids = Ids {
@@ -83,8 +101,8 @@ pub fn ticket(random: &mut Random, ids: &Ids) -> [u8; 5] {
     [operation, kind, a, b, c]
 }
 
-/// A property with its domain and range. One in three has Resource at both ends, which most links allow; of the others
-/// one range in four is the mark.
+/// A property with its domain and range. One in three has Resource at both ends, which most links allow; of
+/// the others one range in four is the mark.
 fn made_property(random: &mut Random, ids: &Ids) -> [u8; 3] {
     let made = id(random, ids, ids.properties);
     if random.is_one_in(3) {

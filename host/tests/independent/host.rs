@@ -4,9 +4,9 @@ use super::image::{read, write};
 use super::table::MOST_WORDS;
 use super::ticket::apply;
 
-/// Reads the image into 2,048 words, applies the ticket, writes the output; refuses as these steps do in this order.
-/// The number holds the answer, the facts added, the facts removed and the image's length, 16 bits each, lowest
-/// first, the last three 0 on refusal.
+/// Reads the image into 2,048 words, applies the ticket, writes the output; refuses as these steps do in this
+/// order. The number holds the answer, the facts added, the facts removed and the image's length, 16 bits
+/// each, lowest first, the last three 0 on refusal.
 pub fn host_call(image: &[u8], ticket: &[u8], output: &mut [u8]) -> u64 {
     let mut table = [0; MOST_WORDS];
     let refusal = read(image, &mut table);

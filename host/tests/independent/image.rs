@@ -3,7 +3,7 @@
 use super::fact::{fact, ids_of, Fact};
 use super::graph::Graph;
 use super::rules::is_consistent;
-use super::table::{consistent_facts_of, has_wrong_length, store};
+use super::table::{consistent_facts_of, is_bad_size, store};
 
 /// Bytes before the first body: edition, number of entries, and six for each of ten kinds.
 pub const CONTENTS_LENGTH: usize = 62;
@@ -23,7 +23,11 @@ impl Entry {
         let at = 2 + 6 * (usize::from(kind) - 1);
         let bytes = image.get(at..at + 6)?;
         let number = |low: u8, high: u8| usize::from(low) + 256 * usize::from(high);
-        Some(Entry { width: ids_of(kind), start: number(bytes[2], bytes[3]), count: number(bytes[4], bytes[5]) })
+        Some(Entry {
+            width: ids_of(kind),
+            start: number(bytes[2], bytes[3]),
+            count: number(bytes[4], bytes[5]),
+        })
     }
 }
 
@@ -44,8 +48,8 @@ pub fn image_of(graph: &Graph) -> Option<Vec<u8>> {
     Some(contents)
 }
 
-/// The facts of an image, or none if it is malformed (refusal 12). The bodies are taken by the counts alone; the image is
-/// well formed if it is the image of what was taken.
+/// The facts of an image, or none if it is malformed (refusal 12). The bodies are taken by the counts alone;
+/// the image is well formed if it is the image of what was taken.
 pub fn facts_in(image: &[u8]) -> Option<Graph> {
     let mut facts = Vec::new();
     let mut at = CONTENTS_LENGTH;
@@ -82,7 +86,7 @@ pub fn write(table: &[u32], output: &mut [u8]) -> (u8, usize) {
 
 /// Reads an image into a table. Refusals 1, 12, 11, 3; the words after its facts are zeros.
 pub fn read(image: &[u8], table: &mut [u32]) -> u8 {
-    if has_wrong_length(table) {
+    if is_bad_size(table) {
         return 1;
     }
     let graph = match facts_in(image) {

@@ -17,8 +17,8 @@ pub struct ListAnswer {
 /// Runs the tickets in turn and writes the number of each to its answer byte. Refusals 1, 2, 3, 14.
 pub fn apply_list(table: &mut [u32], list: &[u8], answers: &mut [u8]) -> ListAnswer {
     let tickets = list.chunks(TICKET_LENGTH);
-    let short = (tickets.len() > answers.len()).then_some(14);
-    let refusal = consistent_facts_of(table).err().or(short);
+    let few_answers = (tickets.len() > answers.len()).then_some(14);
+    let refusal = consistent_facts_of(table).err().or(few_answers);
     if let Some(number) = refusal {
         return ListAnswer { number, accepted: 0, refused: 0 };
     }

@@ -1,4 +1,5 @@
-//! The rules once more, each read off document 01 as a statement about all ids of the graph. Very slow; it tests `rules`.
+//! The rules once more, each read off document 01 as a statement about all ids of the graph. Very slow; it
+//! tests `rules`.
 
 use super::fact::*;
 use super::graph::Graph;
@@ -55,7 +56,9 @@ fn meets_rules_of_two(g: &Graph, x: u8, y: u8) -> bool {
 fn meets_rules_of_more(g: &Graph, ids: &[u8], x: u8, y: u8) -> bool {
     ids.iter().all(|z| {
         meets_rules_of_three(g, x, y, *z)
-            && ids.iter().all(|w| meets_subproperty_ends(g, x, y, *z, *w) && meets_rules_of_values(g, x, y, *z, *w))
+            && ids
+                .iter()
+                .all(|w| meets_subproperty_ends(g, x, y, *z, *w) && meets_rules_of_values(g, x, y, *z, *w))
     })
 }
 

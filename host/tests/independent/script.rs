@@ -1,5 +1,5 @@
-//! What the program `run_calls` prints for a script, by the calls of this implementation. The commands are those that
-//! the head of crates/run_calls/src/main.rt describes.
+//! What the program `run_calls` prints for a script, by the calls of this implementation. The commands are
+//! those that the head of crates/run_calls/src/main.rt describes.
 
 use super::image::{body, read, write};
 use super::list::apply_list;
@@ -27,7 +27,8 @@ struct Given {
 impl Given {
     /// The bytes of hexadecimal digits, with blanks between.
     fn of(text: &str) -> Given {
-        let digits: Vec<u32> = text.chars().filter(|x| *x != ' ').map(|x| x.to_digit(16).unwrap_or(0)).collect();
+        let digits: Vec<u32> =
+            text.chars().filter(|x| *x != ' ').map(|x| x.to_digit(16).unwrap_or(0)).collect();
         Given { bytes: digits.chunks_exact(2).map(|pair| (16 * pair[0] + pair[1]) as u8).collect() }
     }
 
@@ -163,8 +164,8 @@ impl State {
         format!(" {}{}", part.len(), shown(part))
     }
 
-    /// How often reading the image with each byte set to each value gives each answer; a 0 for an image that is not the
-    /// table's counts as 13, and a refusal that does not leave the copy's words as 14.
+    /// How often reading the image with each byte set to each value gives each answer; a 0 for an image that
+    /// is not the table's counts as 13, and a refusal that does not leave the copy's words as 14.
     fn damage(&mut self, image: &[u8]) -> String {
         let mut met = [0; 15];
         for place in 0..image.len() {

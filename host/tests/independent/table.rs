@@ -8,13 +8,13 @@ use super::rules::is_consistent;
 pub const MOST_WORDS: usize = 2048;
 
 /// Refusal 1: no words, or too many.
-pub fn has_wrong_length(table: &[u32]) -> bool {
+pub fn is_bad_size(table: &[u32]) -> bool {
     table.is_empty() || table.len() > MOST_WORDS
 }
 
 /// The facts of a table, or refusal 1 or 2.
 pub fn facts_of(table: &[u32]) -> Result<Graph, u8> {
-    if has_wrong_length(table) {
+    if is_bad_size(table) {
         return Err(1);
     }
     let end = table.iter().position(|word| *word == 0);
@@ -53,7 +53,7 @@ pub fn fresh_graph() -> Graph {
 
 /// Makes a table fresh.
 pub fn fresh(table: &mut [u32]) -> u8 {
-    if has_wrong_length(table) {
+    if is_bad_size(table) {
         return 1;
     }
     store(&fresh_graph(), table);

@@ -76,7 +76,7 @@ pub fn asked_by(ticket: &[u8]) -> Result<Asked, u8> {
 /// The graph that the ticket leaves, or refusal 8, 9 or 10.
 pub fn changed(old: &Graph, asked: &Asked) -> Result<Graph, u8> {
     match asked {
-        Asked::Delete(fact) if is_never_deleted(*fact) => Err(8),
+        Asked::Delete(fact) if is_guarded(*fact) => Err(8),
         Asked::Delete(fact) if !old.has(*fact) => Ok(old.clone()),
         Asked::Delete(fact) => Ok(largest(old, *fact).expect("there is a largest part")),
         Asked::Insert(facts) if uses_unknown_property(old, facts) => Err(9),
@@ -85,7 +85,7 @@ pub fn changed(old: &Graph, asked: &Asked) -> Result<Graph, u8> {
 }
 
 /// Refusal 8: Cl(0), and every CSub and CI with b = 0.
-pub fn is_never_deleted(fact: Fact) -> bool {
+pub fn is_guarded(fact: Fact) -> bool {
     fact == class(RESOURCE) || (matches!(fact.kind, SUBCLASS | MEMBER) && fact.b == RESOURCE)
 }
 

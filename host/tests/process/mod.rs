@@ -122,8 +122,8 @@ fn write_pieces(mut pipe: ChildStdin, pieces: &[&[u8]]) {
     }
 }
 
-/// The input cut into pieces of 1 to 7,001 bytes, none longer than half of it, and about every other one shorter than two
-/// tickets.
+/// The input cut into pieces of 1 to 7,001 bytes, none longer than half of it, and about every other one
+/// shorter than two tickets.
 pub fn odd_pieces<'a>(random: &mut Random, input: &'a [u8]) -> Vec<&'a [u8]> {
     let longest = 7_001.min(1.max(input.len() / 2));
     let mut pieces = Vec::new();

@@ -1,5 +1,5 @@
-//! Input that cannot be read to its end. The programs stop there: they print nothing more on standard output, and one line
-//! on standard error.
+//! Input that cannot be read to its end. The programs stop there: they print nothing more on standard output,
+//! and one line on standard error.
 
 use crate::generator::graphs::{filled, image};
 use crate::generator::long_lists::{long_list, TICKETS_AT_ONCE};
@@ -24,8 +24,8 @@ fn assert_unread(input: impl Fn() -> File) {
     }
 }
 
-/// Sees a program that takes a failed read for the end of its input (program one would print the count of a fresh table),
-/// or says nothing.
+/// Sees a program that takes a failed read for the end of its input (program one would print the count of a
+/// fresh table), or says nothing.
 #[test]
 fn a_directory() {
     assert_unread(|| File::open(env!("CARGO_MANIFEST_DIR")).expect("a directory can be opened"));
@@ -37,8 +37,8 @@ fn a_file_open_for_writing_only() {
     assert_unread(|| nameless_file(OpenOptions::new().write(true)));
 }
 
-/// What a program prints whose input does not wait: a read fails where nothing is there. One part is there from the
-/// start; the other comes when the program has ended, or after five seconds.
+/// What a program prints whose input does not wait: a read fails where nothing is there. One part is there
+/// from the start; the other comes when the program has ended, or after five seconds.
 fn with_a_pause(program: &Program, before: &[u8], after: &[u8]) -> Printed {
     let (mut here, there) = UnixStream::pair().expect("two ends");
     there.set_nonblocking(true).expect("reads of it do not wait");
@@ -51,9 +51,9 @@ fn with_a_pause(program: &Program, before: &[u8], after: &[u8]) -> Printed {
     Printed::by(child)
 }
 
-/// Sees a program that takes the pause for the end, and prints a count as if all tickets had been run; one that goes on
-/// after the pause, in the midst of a ticket even; one that runs tickets of 16,000 bytes that it could not read to their
-/// end; one that says nothing.
+/// Sees a program that takes the pause for the end, and prints a count as if all tickets had been run; one
+/// that goes on after the pause, in the midst of a ticket even; one that runs tickets of 16,000 bytes that it
+/// could not read to their end; one that says nothing.
 #[test]
 fn a_pause_of_tickets_that_do_not_wait() {
     let tickets = long_list(&mut Random::for_test("a_pause_of_tickets"), TICKETS_AT_ONCE + 20);
@@ -72,14 +72,18 @@ fn a_pause_of_tickets_that_do_not_wait() {
     }
 }
 
-/// Sees a program that takes the pause for the end of the image, and refuses or prints what is there; one that says
-/// nothing.
+/// Sees a program that takes the pause for the end of the image, and refuses or prints what is there; one
+/// that says nothing.
 #[test]
 fn a_pause_of_an_image_that_does_not_wait() {
     let image = image(&filled(&mut Random::for_test("a_pause_of_an_image"), 300));
     for before in [0, 1, image.len() / 2, image.len()] {
         let printed = with_a_pause(&Program::two(), &image[..before], &image[before..]);
-        assert_eq!((printed.output.as_str(), printed.errors.as_str()), ("", TWO), "a pause after {before} bytes");
+        assert_eq!(
+            (printed.output.as_str(), printed.errors.as_str()),
+            ("", TWO),
+            "a pause after {before} bytes"
+        );
     }
 }
 

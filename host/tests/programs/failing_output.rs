@@ -1,5 +1,5 @@
-//! Output that cannot be written. The programs stop there, and print one line on standard error; where the reader of a pipe
-//! is gone the system ends them.
+//! Output that cannot be written. The programs stop there, and print one line on standard error; where the
+//! reader of a pipe is gone the system ends them.
 
 use crate::generator::graphs::{filled, image};
 use crate::generator::long_lists::{long_list, TICKETS_AT_ONCE};
@@ -28,8 +28,9 @@ fn errors_and_taken(program: &Program, input: &[u8], output: File) -> (String, u
     (errors, same.stream_position().expect("a place in the file") as usize)
 }
 
-/// Program one says so for the count alone, for some lines, and for more tickets than it reads at once, of which it takes
-/// no more; program two for an image with facts, and not for a refused one, for which it has nothing to write.
+/// Program one says so for the count alone, for some lines, and for more tickets than it reads at once, of
+/// which it takes no more; program two for an image with facts, and not for a refused one, for which it has
+/// nothing to write.
 fn assert_unwritten(output: impl Fn() -> File) {
     let at_once = 5 * TICKETS_AT_ONCE;
     let tickets = long_list(&mut Random::for_test("unwritten_lines"), 2 * TICKETS_AT_ONCE + 1).concat();
@@ -59,14 +60,17 @@ fn a_full_device() {
 /// Sees the same where the write fails for another reason.
 #[test]
 fn a_file_open_for_reading_only() {
-    assert_unwritten(|| File::open(concat!(env!("CARGO_MANIFEST_DIR"), "/Cargo.toml")).expect("a file can be opened"));
+    assert_unwritten(|| {
+        File::open(concat!(env!("CARGO_MANIFEST_DIR"), "/Cargo.toml")).expect("a file can be opened")
+    });
 }
 
 /// The signal by which the system ends a program that writes to a pipe which nobody can read any more.
 const NO_READER: i32 = 13;
 
-/// The reader of the pipe is gone before the input comes: the system ends the program at its first write, and nothing
-/// stands on standard error. It is the system that is seen here, as docs/REVIEW.md has it, and that the program writes.
+/// The reader of the pipe is gone before the input comes: the system ends the program at its first write, and
+/// nothing stands on standard error. It is the system that is seen here, as docs/REVIEW.md has it, and that
+/// the program writes.
 #[test]
 fn a_reader_who_closes_the_pipe() {
     let tickets = long_list(&mut Random::for_test("no_reader"), 2 * TICKETS_AT_ONCE + 1).concat();
@@ -110,9 +114,9 @@ fn read_all(from: &mut UnixStream) -> Vec<u8> {
     }
 }
 
-/// The output does not wait: a write fails where it is full. Nobody reads it until the program has ended, or for five
-/// seconds; then there is room again, and more tickets come. Sees a program that goes on after a failed write: lines are
-/// missing before those that come later, and before the count.
+/// The output does not wait: a write fails where it is full. Nobody reads it until the program has ended, or
+/// for five seconds; then there is room again, and more tickets come. Sees a program that goes on after a
+/// failed write: lines are missing before those that come later, and before the count.
 #[test]
 fn an_output_that_is_full_for_a_while() {
     let (tickets, lines) = many_tickets(&mut Random::for_test("an_output_that_is_full"));
@@ -137,7 +141,8 @@ fn an_output_that_is_full_for_a_while() {
     assert_eq!(errors.join().expect("standard error is read"), ONE);
 }
 
-/// All that comes from there, read while the test goes on, so that a program which prints much does not wait for it.
+/// All that comes from there, read while the test goes on, so that a program which prints much does not wait
+/// for it.
 fn read_aside(mut from: ChildStderr) -> JoinHandle<String> {
     thread::spawn(move || {
         let mut text = String::new();

@@ -9,7 +9,8 @@ use std::process::Stdio;
 use std::thread;
 use std::time::Duration;
 
-/// A ticket less than what is read at once, as much, a ticket more; as much as two reads bring, a ticket more.
+/// A ticket less than what is read at once, as much, a ticket more; as much as two reads bring, a ticket
+/// more.
 const COUNTS: [usize; 5] = [3_199, 3_200, 3_201, 6_400, 6_401];
 
 /// So many tickets that their lines pass what a pipe holds.
@@ -23,8 +24,8 @@ struct Case {
     printed: String,
 }
 
-/// A long list cut off after so many tickets, with 0 to 4 bytes left over, which are the start of the next ticket. At each
-/// of these places stand more facts than a table of 1,024 words holds.
+/// A long list cut off after so many tickets, with 0 to 4 bytes left over, which are the start of the next
+/// ticket. At each of these places stand more facts than a table of 1,024 words holds.
 fn cases(random: &mut Random, counts: &[usize]) -> Vec<Case> {
     let most = counts.iter().max().expect("there are counts");
     let tickets = long_list(random, most + 1);
@@ -60,7 +61,8 @@ fn case(run: &Run, input: &[u8], left_over: usize) -> Case {
     Case { name, input: input.to_vec(), printed: run.print() }
 }
 
-/// Program one prints for each list what the independent implementation prints, and nothing on standard error.
+/// Program one prints for each list what the independent implementation prints, and nothing on standard
+/// error.
 fn assert_cases<'a>(cases: &'a [Case], mut fed: impl FnMut(&'a [u8]) -> Fed<'a>) {
     let program = Program::one();
     for case in cases {
@@ -68,8 +70,9 @@ fn assert_cases<'a>(cases: &'a [Case], mut fed: impl FnMut(&'a [u8]) -> Fed<'a>)
     }
 }
 
-/// Sees a program that reads once and takes no more; one that reads 15,999 bytes at once, or any other number that is no
-/// multiple of five, and so cuts a ticket in two; one with a table of 1,024 words; one that prints on standard error.
+/// Sees a program that reads once and takes no more; one that reads 15,999 bytes at once, or any other number
+/// that is no multiple of five, and so cuts a ticket in two; one with a table of 1,024 words; one that prints
+/// on standard error.
 #[test]
 fn from_a_file() {
     let mut random = Random::for_test("long_lists_from_a_file");
@@ -83,8 +86,8 @@ fn from_a_pipe() {
     assert_cases(&cases(&mut random, &COUNTS), |input| Fed::Pipe(vec![input]));
 }
 
-/// Sees moreover a program that takes a short read for the end of the input, or runs what a read brings before the ticket
-/// is whole.
+/// Sees moreover a program that takes a short read for the end of the input, or runs what a read brings
+/// before the ticket is whole.
 #[test]
 fn from_a_pipe_in_odd_pieces() {
     let mut random = Random::for_test("long_lists_in_odd_pieces");
@@ -92,8 +95,8 @@ fn from_a_pipe_in_odd_pieces() {
     assert_cases(&cases, |input| Fed::Pipe(odd_pieces(&mut random, input)));
 }
 
-/// Sees a program that stops after some reads, or gathers all of its lines in a buffer of 64 KB. The last reader comes when
-/// the pipe is full and the program waits.
+/// Sees a program that stops after some reads, or gathers all of its lines in a buffer of 64 KB. The last
+/// reader comes when the pipe is full and the program waits.
 #[test]
 fn with_more_output_than_a_pipe_holds() {
     let mut random = Random::for_test("long_lists_with_long_output");

@@ -1,5 +1,5 @@
-//! Programs one and two as processes beside the independent implementation: more input than one read brings, from files
-//! and pipes; and input and output that fail. Each test says which wrong programs it sees.
+//! Programs one and two as processes beside the independent implementation: more input than one read brings,
+//! from files and pipes; and input and output that fail. Each test says which wrong programs it sees.
 
 mod failing_input;
 mod failing_output;

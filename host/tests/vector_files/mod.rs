@@ -3,7 +3,8 @@
 // Each test uses its own share of this module.
 #![allow(dead_code)]
 
-/// A case of the W3C suites: tickets on a fresh table, their answer numbers, and words that are there or not at the end.
+/// A case of the W3C suites: tickets on a fresh table, their answer numbers, and words that are there or not
+/// at the end.
 pub struct SuiteCase {
     pub name: &'static str,
     pub list: Vec<u8>,

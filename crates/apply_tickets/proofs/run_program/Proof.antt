@@ -4,7 +4,7 @@ use native.Mathlib.Omega.{arith}
 use denote.Ref.{now}
 use lib.Seq.{length-take-le}
 use Rattle.report.proofs.Chunk.{made-fresh, lent-fresh}
-use Rattle.report.proofs.Joined.{ran-table, ran-prints}
+use Rattle.report.proofs.WholeInput.{ran-table, ran-prints}
 use borrow.Author.Needs.{needs}
 use Rattle.apply_tickets.proofs.run_program.Statement.{statement}
 use Rattle.apply_tickets.proofs.run_program.Tie as tie
@@ -16,8 +16,8 @@ run-input-requires : tie.Need-run-input-requires
 run-input-requires c κs =
     let fresh = c .before .before .before .before .before in
     let program = fresh .before .before .before .before .before in
-    let words = made-fresh (now (program .args .table)) (program .pre .most) (fresh .fresh .ensures .1) in
-    lent-fresh _ words (program .pre)
+    let words = made-fresh (now (program .args .table)) (program .pre .0) (fresh .fresh .ensures .1) in
+    lent-fresh words (program .pre .1)
 
 put-count-requires : tie.Need-put-count-requires
 put-count-requires c κs =
@@ -25,9 +25,9 @@ put-count-requires c κs =
     let input = run .run-input in
     let fresh = run .before .before .before .before .before .before in
     let program = fresh .before .before .before .before .before in
-    let words = made-fresh (now (program .args .table)) (program .pre .most) (fresh .fresh .ensures .1) in (
-      ran-table _ (program .pre .whole) words (input .result) (c .before .before .if1 .taken) (input .ensures),
-      omega (arith, program .pre .room, input .kept .1 .1 .0),
+    let words = made-fresh (now (program .args .table)) (program .pre .0) (fresh .fresh .ensures .1) in (
+      ran-table _ (program .pre .1 .whole) words (input .result) (c .before .before .if1 .taken) (input .ensures),
+      omega (arith, program .pre .1 .room, input .kept .1 .1 .0),
     )
 
 slice-aggregate-write-output : tie.Need-slice-aggregate-write-output
@@ -61,8 +61,8 @@ returns c =
     let input = run .run-input in
     let fresh = run .before .before .before .before .before .before in
     let program = fresh .before .before .before .before .before in
-    let words = made-fresh (now (program .args .table)) (program .pre .most) (fresh .fresh .ensures .1) in
-    ran-prints _ (program .pre .whole) words (input .result) (test .if1 .taken) (input .ensures) (count .result)
+    let words = made-fresh (now (program .args .table)) (program .pre .0) (fresh .fresh .ensures .1) in
+    ran-prints _ (program .pre .1 .whole) words (input .result) (test .if1 .taken) (input .ensures) (count .result)
     (count .last .1 .0)
     (count .ensures .1)
 

@@ -7,10 +7,10 @@ use Rattle.check_load.proofs.count_accepted.Statement.{statement}
 use Rattle.check_load.proofs.count_accepted.Tie as tie
 
 abbrev Inv-loop : tie.InvT-loop
-Inv-loop t₀ done₀ accepted₀ t done accepted = (accepted ≤ done) × (done ≤ 5000)
+Inv-loop table₀ done₀ accepted₀ table done accepted = (accepted ≤ done) × (done ≤ 5000)
 
 abbrev μ-loop : tie.MeasureT-loop
-μ-loop t₀ done₀ accepted₀ t done accepted = 5000 - done
+μ-loop table₀ done₀ accepted₀ table done accepted = 5000 - done
 
 loop-holds : tie.Need-loop-holds Inv-loop μ-loop
 loop-holds c = (omega arith, omega arith)

@@ -25,7 +25,8 @@ count-facts-requires c κs = search needs
 slice-aggregate-words : tie.Need-slice-aggregate-words
 slice-aggregate-words c =
     let entry = c .before .before .before in
-    sym (length-take-le (c .before .count-facts .result) (now (entry .args .t)) (counted-ascending product (now (entry .args .t))
+    sym (length-take-le (c .before .count-facts .result) (now (entry .args .table))
+    (counted-ascending product (now (entry .args .table))
     (entry .pre .0) _ (c .before .count-facts .ensures) .0))
 
 slice-aggregate-fill-index : tie.Need-slice-aggregate-fill-index
@@ -34,9 +35,14 @@ slice-aggregate-fill-index c = search needs
 fill-index-requires : tie.Need-fill-index-requires
 fill-index-requires c κs =
     let entry = c .before .before .before .before in
-    let counted = counted-words (now (entry .args .t)) (entry .pre .0) _ (c .before .before .count-facts .ensures)
+    let counted = counted-words (now (entry .args .table)) (entry .pre .0) _ (c .before .before .count-facts .ensures)
     (entry .pre .1) in
-    (counted .0, le-trans (counted .1) (lit≤ tt), refl, λ j. zeros-at spanCount j)
+    record {
+      words = counted .0;
+      few = le-trans (counted .1) (lit≤ tt);
+      spans = refl;
+      zeros = zeros-at spanCount;
+    }
 
 slice-aggregate-visit : tie.Need-slice-aggregate-visit
 slice-aggregate-visit c = search needs
@@ -47,9 +53,9 @@ visit-requires c κs =
     let at-count-facts = at-before .before in
     let entry = at-count-facts .before .before in
     record {
-      words = counted-words (now (entry .args .t)) (entry .pre .0) _ (at-count-facts .count-facts .ensures)
+      words = counted-words (now (entry .args .table)) (entry .pre .0) _ (at-count-facts .count-facts .ensures)
           (entry .pre .1) .0;
-      index = c .before .before .fill-index .ensures;
+      starts = c .before .before .fill-index .ensures;
     }
 
 returns : tie.Need-returns
@@ -57,9 +63,10 @@ returns c =
     let at-before = c .before .before .before .before .before in
     let at-count-facts = at-before .before in
     let entry = at-count-facts .before .before in
-    let t = now (entry .args .t) in
-    let counted = counted-filled product t (entry .pre .0) _ (at-count-facts .count-facts .ensures) in
-    answers-same (graphOf (filled t)) (graph (facts product t)) (filled-within t (entry .pre .0)) (facts-within t (entry .pre .0))
+    let table = now (entry .args .table) in
+    let counted = counted-filled product table (entry .pre .0) _ (at-count-facts .count-facts .ensures) in
+    answers-same (graphOf (filled table)) (graph (facts product table)) (filled-within table (entry .pre .0))
+    (facts-within table (entry .pre .0))
     rulesInOrder (c .visit .result)
     (subst (λ l. Answers (graphOf l) rulesInOrder (c .visit .result)) counted (c .visit .ensures))
 

@@ -4,16 +4,16 @@ use mathlib.Core.Path.{_≡_, ap}
 use mathlib.Core.List.{List}
 use Prim.Native.Nat.{ℕ, _+_, _*_, _-_}
 use lib.ListN.{length, take, drop}
-use Rattle.contents.specs.Form.{form}
-use Rattle.contents.proofs.HasBody.{there, there-size, there-within, gone, part-none, part-some}
-use Rattle.contents.proofs.ImageAgain.{contents-within}
-use Rattle.contents.proofs.Linking.{product-small}
+use Rattle.contents.specs.ImageForm.{form}
+use Rattle.contents.proofs.FormBounds.{body-small}
+use Rattle.contents.proofs.HasBody.{there, there-entry, there-size, there-within, gone, part-none, part-some}
+use Rattle.contents.proofs.Product.{proper, legible}
 use borrow.Author.Needs.{needs}
 use Rattle.contents.proofs.body.Statement.{statement}
 use Rattle.contents.proofs.body.Tie as tie
 
 has-body-requires : tie.Need-has-body-requires
-has-body-requires c κs = search needs
+has-body-requires c κs = legible
 
 sub-result : tie.Need-sub-result
 sub-result c = search needs
@@ -26,45 +26,49 @@ part-result-end c = search needs
 
 returns : tie.Need-returns
 returns c =
-    let bytes : List ℕ = c .before .before .before .before .args .image .now in
+    let at-has-body = c .before .before in
+    let s = at-has-body .before .before in
+    let bytes : List ℕ = s .args .image .now in
     let none : length bytes - length bytes ≡ 0 = omega arith in
-    part-none bytes (c .before .before .before .before .args .kind) _ _
-    (gone bytes (c .before .before .before .before .args .kind) (c .before .before .has-body .result)
-    (c .before .before .has-body .ensures) (c .before .if1 .taken))
+    part-none form bytes (s .args .kind) _ _ (gone form bytes (s .args .kind) (at-has-body .has-body .result)
+    (at-has-body .has-body .ensures) (c .before .if1 .taken))
     record { block = search needs; offset = search needs; bytes = ap (λ n. take n (drop (length bytes) bytes)) none }
 
 start-at-requires : tie.Need-start-at-requires
 start-at-requires c κs =
-    let h = there (c .before .before .before .args .image .now) (c .before .before .before .args .kind)
-    (c .before .has-body .result) (c .before .has-body .ensures) (c .if1 .left) in
-    (h .some, h .most, contents-within form (c .before .before .before .args .image .now) (h .right))
+    let s = c .before .before .before in
+    there-entry form (s .args .image .now) (s .args .kind) legible (there form (s .args .image .now) (s .args .kind) proper
+    (c .before .has-body .result) (c .before .has-body .ensures) (c .if1 .left))
 
 fact-size-requires : tie.Need-fact-size-requires
-fact-size-requires c κs = search needs
+fact-size-requires c κs = legible
 
 count-at-requires : tie.Need-count-at-requires
 count-at-requires c κs =
-    let h = there (c .before .before .before .before .before .args .image .now)
-    (c .before .before .before .before .before .args .kind) (c .before .before .before .has-body .result)
-    (c .before .before .before .has-body .ensures) (c .before .before .if1 .left) in
-    (h .some, h .most, contents-within form (c .before .before .before .before .before .args .image .now) (h .right))
+    let at-if1 = c .before .before in
+    let at-has-body = at-if1 .before in
+    let s = at-has-body .before .before in
+    there-entry form (s .args .image .now) (s .args .kind) legible (there form (s .args .image .now) (s .args .kind) proper
+    (at-has-body .has-body .result) (at-has-body .has-body .ensures) (at-if1 .if1 .left))
 
 mul-to : tie.Need-mul-to
 mul-to c = omega (
   arith,
-  product-small (c .before .fact-size .result) (c .count-at .result) (c .before .fact-size .ensures .1)
-      (c .count-at .ensures .1),
+  body-small legible (c .before .fact-size .result) (c .count-at .result)
+      (c .before .fact-size .ensures .1) (c .count-at .ensures .1),
 )
 
 add-to : tie.Need-add-to
 add-to c =
-    let h = there (c .before .before .before .before .before .before .args .image .now)
-    (c .before .before .before .before .before .before .args .kind) (c .before .before .before .before .has-body .result)
-    (c .before .before .before .before .has-body .ensures) (c .before .before .before .if1 .left) in
+    let at-start-at = c .before .before in
+    let at-if1 = at-start-at .before in
+    let at-has-body = at-if1 .before in
+    let s = at-has-body .before .before in
+    let here = there form (s .args .image .now) (s .args .kind) proper (at-has-body .has-body .result)
+    (at-has-body .has-body .ensures) (at-if1 .if1 .left) in
     omega (
       arith,
-      there-within (c .before .before .before .before .before .before .args .image .now)
-          (c .before .before .before .before .before .before .args .kind) h _ _ _ (c .before .before .start-at .ensures)
+      there-within form (s .args .image .now) (s .args .kind) here _ _ _ (at-start-at .start-at .ensures)
           (c .before .fact-size .ensures .0) (c .count-at .ensures .0),
     )
 
@@ -76,27 +80,31 @@ part-result-start-2 c = search needs
 
 part-result-end-2 : tie.Need-part-result-end-2
 part-result-end-2 c =
-    let h = there (c .before .before .before .before .before .before .args .image .now)
-    (c .before .before .before .before .before .before .args .kind) (c .before .before .before .before .has-body .result)
-    (c .before .before .before .before .has-body .ensures) (c .before .before .before .if1 .left) in
-    let inside = there-within (c .before .before .before .before .before .before .args .image .now)
-    (c .before .before .before .before .before .before .args .kind) h _ _ _ (c .before .before .start-at .ensures)
+    let at-start-at = c .before .before in
+    let at-if1 = at-start-at .before in
+    let at-has-body = at-if1 .before in
+    let s = at-has-body .before .before in
+    let here = there form (s .args .image .now) (s .args .kind) proper (at-has-body .has-body .result)
+    (at-has-body .has-body .ensures) (at-if1 .if1 .left) in
+    let inside = there-within form (s .args .image .now) (s .args .kind) here _ _ _ (at-start-at .start-at .ensures)
     (c .before .fact-size .ensures .0) (c .count-at .ensures .0) in
     search needs
 
 returns-2 : tie.Need-returns-2
 returns-2 c =
-    let bytes : List ℕ = c .before .before .before .before .before .before .before .args .image .now in
-    let h = there bytes (c .before .before .before .before .before .before .before .args .kind)
-    (c .before .before .before .before .before .has-body .result)
-    (c .before .before .before .before .before .has-body .ensures) (c .before .before .before .before .if1 .left) in
-    let from : ℕ = c .before .before .before .start-at .result in
-    let size : ℕ = c .before .before .fact-size .result * c .before .count-at .result in
+    let at-fact-size = c .before .before in
+    let at-start-at = at-fact-size .before in
+    let at-if1 = at-start-at .before in
+    let at-has-body = at-if1 .before in
+    let s = at-has-body .before .before in
+    let bytes : List ℕ = s .args .image .now in
+    let here = there form bytes (s .args .kind) proper (at-has-body .has-body .result) (at-has-body .has-body .ensures)
+    (at-if1 .if1 .left) in
+    let from : ℕ = at-start-at .start-at .result in
+    let size : ℕ = at-fact-size .fact-size .result * c .before .count-at .result in
     let same : from + size - from ≡ size = omega arith in
-    part-some bytes (c .before .before .before .before .before .before .before .args .kind) _ _ (h .here) from size
-    (c .before .before .before .start-at .ensures)
-    (there-size bytes (c .before .before .before .before .before .before .before .args .kind) _ _
-    (c .before .before .fact-size .ensures .0) (c .before .count-at .ensures .0))
+    part-some form bytes (s .args .kind) _ _ (here .here) from size (at-start-at .start-at .ensures)
+    (there-size form bytes (s .args .kind) _ _ (at-fact-size .fact-size .ensures .0) (c .before .count-at .ensures .0))
     record { block = search needs; offset = search needs; bytes = ap (λ n. take n (drop from bytes)) same }
 
 pub body-spec : {M : Type 1} → statement M

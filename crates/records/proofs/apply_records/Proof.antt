@@ -80,7 +80,7 @@ use types.Tokens.{lft-new, lft-end}
 use denote.RattleType.{RattleType, owns}
 use denote.Laws.{Is, shows}
 use denote.Plain.{uint-makes, uint-lawful}
-use denote.Builtin.{u8, u32, usize}
+use denote.Builtin.{u8, usize}
 use denote.Ref.{RefT}
 use denote.Slice.{sliceVal, MutSlice, ShrSlice, Room, finally, slice-vals, mut-slice-tells, shr-slice-tells, shr-slice-copy}
 use denote.Signature.{plain}
@@ -107,16 +107,16 @@ use denote.Triple.Walked.{
 }
 use denote.Exit.{yes}
 use Rattle.rdfs.specs.Numbers.{product}
-use Rattle.rdfs.specs.Register.{run, Table}
-use Rattle.ticket_form.specs.Form.{bytesOf}
-use Rattle.ticket_form.specs.declared.Ticket.{Ticket}
+use Rattle.rdfs.specs.Register.{run}
+use Rattle.ticket_form.specs.TicketForm.{bytesOf}
+use Rattle.ticket_form.specs.declared.fields.Ticket.{Ticket}
 use Rattle.list_form.specs.Listing.{refusalOf, listing, ListAnswered, recordBytes}
 use Rattle.list_form.specs.Loops.{AllRun, listedOf}
-use Rattle.records.specs.Turns.{turnsOf}
-use Rattle.list_form.specs.declared.Listed.{Listed}
-use Rattle.records.proofs.Relent.{Kept, lent-again, given-back}
-use Rattle.records.proofs.Parts.{records-asked, records-done}
-use Rattle.ticket_form.proofs.Ticket as T
+use Rattle.records.specs.RecordTurns.{turnsOf, Turning}
+use Rattle.list_form.specs.declared.answers.Listed.{Listed}
+use Rattle.records.proofs.Relent.{Element, Kept, lent-again, given-back}
+use Rattle.records.proofs.RecordsCall.{records-asked, records-done}
+use Rattle.ticket_form.proofs.fields.Ticket as T
 use Rattle.list_form.proofs.list_refusal as admit
 use Rattle.list_form.proofs.list_refusal.Symbol as admit-def
 use Rattle.list_form.proofs.list_refusal.Symbol.{name as #list-refusal}
@@ -133,8 +133,8 @@ use Rattle.list_form.proofs.sum_up as totals
 use Rattle.list_form.proofs.sum_up.Symbol as totals-def
 use Rattle.list_form.proofs.sum_up.Symbol.{name as #sum-up}
 use Rattle.list_form.proofs.sum_up.Met as totals-thm
-use Rattle.list_form.proofs.Listed as S
-use Rattle.list_form.proofs.Listed.Laws as S′
+use Rattle.list_form.proofs.answers.Listed as S
+use Rattle.list_form.proofs.answers.Listed.Laws as S′
 use Rattle.records.proofs.apply_records.Key.{name as #apply-records}
 use Rattle.records.proofs.apply_records as list
 use Rattle.records.proofs.apply_records.Statement as stated
@@ -145,7 +145,7 @@ R = T.the-row
 
 abbrev stayed : Stays (list.ended .signature .params) (list.ended .kept)
 stayed = (
-  gave-slice (0 ∷ []) tt (plain (λ _. u32)),
+  gave-slice (0 ∷ []) tt (plain (λ _. Element)),
   (
     stay-none-slice (1 ∷ []) tt (plain (λ _. R)) yes,
     (gave-slice (2 ∷ []) tt (plain (λ _. u8)), tt),
@@ -205,7 +205,7 @@ module _ {M : Type 1} (𝓤 : URA M) (H : Heap 𝓤) (A : Atoms 𝓤) (W : Given
   Post = walkOf 𝓤 H A list.ended stayed (list.clauses 𝓤 H A mem run-of) .post bound
 
   abbrev Own₀ : List ℕ → Fml
-  Own₀ t = MutSlice (named 0) κ₀ u32 .own (tab γ₀ t) (v₀ ∷ [])
+  Own₀ t = MutSlice (named 0) κ₀ Element .own (tab γ₀ t) (v₀ ∷ [])
 
   abbrev Own₁ : Fml
   Own₁ = ShrSlice (named 1) κ₁ R .own tks (v₁ ∷ [])
@@ -217,10 +217,10 @@ module _ {M : Type 1} (𝓤 : URA M) (H : Heap 𝓤) (A : Atoms 𝓤) (W : Given
   Said r t ws = ListAnswered r t ws (listing xs (recordBytes ys) zs)
 
   exits : (r : Listed) (v : Val) (t ws : List ℕ) → length t ≡ length xs → length ws ≡ length zs → Said r t ws
-      → ent 𝓤 (⋆ 𝓤 H A ((‵ (flft κ₀ q₀) ⊛ ‵ (flft κ₁ q₁) ⊛ ‵ (flft κ₂ q₂) ⊛ ‵ ftrue) ∷ ‵ (finally u32 γ₀ t) ∷ ‵ Own₁ ∷ ‵
+      → ent 𝓤 (⋆ 𝓤 H A ((‵ (flft κ₀ q₀) ⊛ ‵ (flft κ₁ q₁) ⊛ ‵ (flft κ₂ q₂) ⊛ ‵ ftrue) ∷ ‵ (finally Element γ₀ t) ∷ ‵ Own₁ ∷ ‵
       (finally u8 γ₂ ws) ∷ ‵ (S.the-row .own r (v ∷ [])) ∷ [])) (Post v)
   exits r v t ws e₀ e₂ d =
-      qed W ((‵ (flft κ₀ q₀) ⊛ ‵ (flft κ₁ q₁) ⊛ ‵ (flft κ₂ q₂) ⊛ ‵ ftrue) ∷ ‵ (finally u32 γ₀ t) ∷ ‵ Own₁ ∷ ‵
+      qed W ((‵ (flft κ₀ q₀) ⊛ ‵ (flft κ₁ q₁) ⊛ ‵ (flft κ₂ q₂) ⊛ ‵ ftrue) ∷ ‵ (finally Element γ₀ t) ∷ ‵ Own₁ ∷ ‵
       (finally u8 γ₂ ws) ∷ ‵ (S.the-row .own r (v ∷ [])) ∷ []) ∵
       suffices ! _ (ends-at 𝓤 H A list.ended stayed (list.clauses 𝓤 H A mem run-of) W bound v r (t, (tt, (ws, tt))) (
         e₀,
@@ -228,9 +228,9 @@ module _ {M : Type 1} (𝓤 : URA M) (H : Heap 𝓤) (A : Atoms 𝓤) (W : Given
       )) $ says ! d $ frame ! $
       nothing ! $ move ! (3 ∷ 0 ∷ []) $ fjoin ! $ move ! (2 ∷ 0 ∷ []) $ fjoin ! $ move ! (1 ∷ 0 ∷ []) $ fjoin ! $ frame ! $ done !
 
-  -- what `run_records` ensures of its result k and the last lists t and ws
+  -- what `run_records` ensures of its result k and the last lists t and ws, beside k ≤ n
   abbrev Ran : ℕ → ℕ → List ℕ → List ℕ → Type 0
-  Ran n k t ws = AllRun k t zs ws (run product xs (map bytesOf (take n ys))) × (k ≤ n)
+  Ran n k t ws = AllRun k t zs ws (run product xs (map bytesOf (take n ys)))
 
   -- ---- what each call is passed, and what it asks
   abbrev to-admit : ℕ → GName → AdmitC 𝓤 H A mem run-of .Ghost
@@ -246,10 +246,11 @@ module _ {M : Type 1} (𝓤 : URA M) (H : Heap 𝓤) (A : Atoms 𝓤) (W : Given
   )
 
   goes-admit : (ν : ℕ) (δ : GName) → length zs < 2 ^ 64 → length ys < 2 ^ 64
-      → ent 𝓤 (sep 𝓤 (A .lft (ν ∷ []) fullShare) (sem 𝓤 H A (MutSlice (named 0) (ν ∷ []) u32 .own (tab δ xs) (v₀ ∷ []))))
+      → ent 𝓤 (sep 𝓤 (A .lft (ν ∷ []) fullShare) (sem 𝓤 H A (MutSlice (named 0) (ν ∷ []) Element .own (tab δ xs) (v₀ ∷ []))))
       (AdmitC 𝓤 H A mem run-of .pre (to-admit ν δ))
   goes-admit ν δ gz gy =
-      qed W (‵ (flft (ν ∷ []) fullShare) ∷ ‵ (MutSlice (named 0) (ν ∷ []) u32 .own (tab δ xs) (v₀ ∷ [])) ∷ []) ∵ nothing ! $ move
+      qed W (‵ (flft (ν ∷ []) fullShare) ∷ ‵ (MutSlice (named 0) (ν ∷ []) Element .own (tab δ xs) (v₀ ∷ [])) ∷ []) ∵ nothing ! $
+      move
       ! (1 ∷ 0 ∷ []) $ join ! $
       nothing ! $ owned ! usize (Is usize) (uint-makes 𝓤 H A W w64) (length zs) _ (refl, gz) $ fjoin ! $ owned ! usize (Is usize)
       (uint-makes 𝓤 H A W w64) (length ys) _ (refl, gy) $ fjoin ! $
@@ -280,7 +281,7 @@ module _ {M : Type 1} (𝓤 : URA M) (H : Heap 𝓤) (A : Atoms 𝓤) (W : Given
     tt,
   )
 
-  goes-run : (n : ℕ) → n < 2 ^ 64 → (n ≤ length ys) × (n ≤ length zs) × (0 < n → Table product xs)
+  goes-run : (n : ℕ) → n < 2 ^ 64 → Turning n xs ys zs
       → ent 𝓤 (sep 𝓤 (sem 𝓤 H A (fsep (flft κ₀ q₀) (fsep (flft κ₁ q₁) (flft κ₂ q₂))))
       (sem 𝓤 H A (fsep (Own₀ xs) (fsep Own₁ Own₂)))) (RunC 𝓤 H A mem run-of .pre (to-run n))
   goes-run n gn h =
@@ -312,12 +313,12 @@ module _ {M : Type 1} (𝓤 : URA M) (H : Heap 𝓤) (A : Atoms 𝓤) (W : Given
       exE 𝓤 _ (λ ws. snd∗ 𝓤 (sem 𝓤 H A (lasts totals.ended tt (c, (n, (k, tt))) ws)) (fact 𝓤 (r ≡ listedOf c n k)))
 
   module _ (C : Calls 𝓤 H) (Λ : Loops 𝓤 H) (fm : FmC 𝓤 H (W .laws) C) (known : Known 𝓤 H A mem run-of C) where
-    walk : Room u32 (length xs) → Room R (length ys) → Room u8 (length zs)
+    walk : Room Element (length xs) → Room R (length ys) → Room u8 (length zs)
         → ent 𝓤 (onEntry 𝓤 H A list.signature (κ₀, (κ₁, (κ₂, tt))) (q₀, (q₁, (q₂, tt))) x vs) (WpFn 𝓤 H C Λ code.function
         (v₀ ∷ v₁ ∷ v₂ ∷ []) Post)
     walk g₀ g₁ g₂ =
         qed W ((‵ (flft κ₀ q₀) ⊛ ‵ (flft κ₁ q₁) ⊛ ‵ (flft κ₂ q₂) ⊛ ‵ ftrue) ∷ ‵
-        (owns (MutSlice (named 0) κ₀ u32 ∷ ShrSlice (named 1) κ₁ R ∷ MutSlice (named 2) κ₂ u8 ∷ []) x vs) ∷ []) ∵ enter ! C Λ
+        (owns (MutSlice (named 0) κ₀ Element ∷ ShrSlice (named 1) κ₁ R ∷ MutSlice (named 2) κ₂ u8 ∷ []) x vs) ∷ []) ∵ enter ! C Λ
         code.function (v₀ ∷ v₁ ∷ v₂ ∷ []) _ $
         alloc1 ! (λ l₀. alloc1 ! (λ l₁. alloc1 !
         (λ l₂. alloc1 ! (λ l₃. alloc1 !
@@ -345,8 +346,9 @@ module _ {M : Type 1} (𝓤 : URA M) (H : Heap 𝓤) (A : Atoms 𝓤) (W : Given
         (init ! 9 refl (tt, record { fits = g₂ .0 })) $
         -- `admit`: the table is lent again, and comes back as it was
         lft-new ! tt (λ ν. move ! (15 ∷ 18 ∷ []) $
-        use2 W (later (some (λ (δ : GName). ‵ (MutSlice (named 0) (ν ∷ []) u32 .own (tab δ xs) (v₀ ∷ [])) ⊛ ‵
-        (Kept u32 κ₀ (ν ∷ []) q₀ γ₀ b₀ o₀ δ xs)))) (lent-again u32 κ₀ (ν ∷ []) q₀ γ₀ b₀ o₀ 𝓤 H A W (named 0) (named 0) xs) $
+        use2 W (later (some (λ (δ : GName). ‵ (MutSlice (named 0) (ν ∷ []) Element .own (tab δ xs) (v₀ ∷ [])) ⊛ ‵
+        (Kept Element κ₀ (ν ∷ []) q₀ γ₀ b₀ o₀ δ xs)))) (lent-again Element κ₀ (ν ∷ []) q₀ γ₀ b₀ o₀ 𝓤 H A W (named 0) (named 0) xs)
+        $
         await ! tt $ pick ! (λ δ. split ! $
         move ! (2 ∷ 0 ∷ []) $ use2 W (raw (AdmitC 𝓤 H A mem run-of .pre (to-admit ν δ))) (goes-admit ν δ (g₂ .0) (g₁ .0)) $
         calls-at ! fm (AdmitC 𝓤 H A mem run-of) (known .0) (to-admit ν δ) (and-then ! (load ! (from ! (stop !)) (look ! 9 refl))
@@ -356,17 +358,19 @@ module _ {M : Type 1} (𝓤 : URA M) (H : Heap 𝓤) (A : Atoms 𝓤) (W : Given
         (ensured 𝓤 H A admit.ended (admit.clauses 𝓤 H A mem run-of) (ν ∷ [], tt) (tab δ xs, (length ys, (length zs, tt))) tt
         c)))) (id⊢ 𝓤 _) $ await ! tt $ pick ! (λ c.
         split ! $ move ! (1 ∷ []) $ use1 W (some (λ (ls : List ℕ × (Unit {0} × (Unit {0} × Unit {0}))). ‵
-        (lasts admit.ended (ν ∷ [], tt) (tab δ xs, (length ys, (length zs, tt))) ls) ⊛ raw
-        (fact 𝓤 ((c ≡ refusalOf xs (length ys) (length zs)) × (ls .0 ≡ xs))))) (id⊢ 𝓤 _) $ pick ! (λ ls.
-        split ! $ move ! (1 ∷ []) $ heard ! ((c ≡ refusalOf xs (length ys) (length zs)) × (ls .0 ≡ xs)) (λ ea. fsplit ! $ fsplit !
-        $ move ! (1 ∷ []) $ feqL ! (λ f.
+        (lasts admit.ended (ν ∷ [], tt) (tab δ xs, (length ys, (length zs, tt))) ls)
+        ⊛ (raw (fact 𝓤 (c ≡ refusalOf xs (length ys) (length zs))) ⊛ raw (fact 𝓤 (ls .0 ≡ xs))))) (id⊢ 𝓤 _) $ pick ! (λ ls.
+        split ! $ move ! (1 ∷ []) $ split ! $ heard ! (c ≡ refusalOf xs (length ys) (length zs)) (λ ea. heard ! (ls .0 ≡ xs)
+        (λ ek.
+        fsplit ! $ fsplit ! $ move ! (1 ∷ []) $ feqL ! (λ f.
         move ! (2 ∷ []) $ split ! $ move ! (1 ∷ []) $ peeks ! u8 (Is u8) (shows 𝓤 H A u8) c (u ∷ []) (λ ic.
         land ! (from ! (stop !)) (init ! 8 refl (uint-lawful 𝓤 H A W w8 .typed c _ ic .0)) $ rewrite ! 8
         (λ (v : Val). ‵ (fat fullShare (tyInt w8) l₄ 0 v)) (ap only (ic .0)) refl $
         move ! (1 ∷ []) $ split ! $ lft-end ! tt $ move ! (0 ∷ 5 ∷ 3 ∷ []) $
-        use3 W (later (‵ (Own₀ (ls .0)) ⊛ ‵ (flft κ₀ q₀))) (given-back u32 κ₀ (ν ∷ []) q₀ γ₀ b₀ o₀ 𝓤 H A W (named 0) (named 0) xs
+        use3 W (later (‵ (Own₀ (ls .0)) ⊛ ‵ (flft κ₀ q₀))) (given-back Element κ₀ (ν ∷ []) q₀ γ₀ b₀ o₀ 𝓤 H A W (named 0) (named 0)
+        xs
         δ (ls .0)) $ await ! tt $ split ! $
-        rewrite ! 0 (λ (l : List ℕ). ‵ (Own₀ l)) (ea .1) refl $ keep !
+        rewrite ! 0 (λ (l : List ℕ). ‵ (Own₀ l)) ek refl $ keep !
         (5 ∷ 6 ∷ 7 ∷ 8 ∷ 9 ∷ 10 ∷ 11 ∷ 12 ∷ 13 ∷ 14 ∷ 15 ∷ 16 ∷ 17 ∷ 18 ∷ 0 ∷ 19 ∷ 20 ∷ 1 ∷ 21 ∷ 22 ∷ 23 ∷ 24 ∷ 25 ∷ 26 ∷ 27 ∷
         28 ∷ 29 ∷ 30 ∷ 31 ∷ 32 ∷ 33 ∷ 34 ∷ 35 ∷ 36 ∷ 37 ∷ 38 ∷ []) $
         -- `turns`
@@ -398,7 +402,7 @@ module _ {M : Type 1} (𝓤 : URA M) (H : Heap 𝓤) (A : Atoms 𝓤) (W : Given
         move ! (15 ∷ []) $ use1 W (‵ Own₁ ⊛ ‵ Own₁) (shr-slice-copy 𝓤 H A W (named 1) κ₁ R .twice tks (v₁ ∷ [])) $ split ! $
         move ! (0 ∷ 17 ∷ []) $ fjoin ! $ move ! (16 ∷ 0 ∷ []) $ fjoin ! $ move ! (17 ∷ 18 ∷ []) $ fjoin ! $ move ! (17 ∷ 0 ∷ []) $
         fjoin ! $
-        use2 W (raw (RunC 𝓤 H A mem run-of .pre (to-run n))) (goes-run n (in′ .1) (records-asked xs ys zs (ea .0) en refl)) $
+        use2 W (raw (RunC 𝓤 H A mem run-of .pre (to-run n))) (goes-run n (in′ .1) (records-asked xs ys zs ea en refl)) $
         calls-at ! fm (RunC 𝓤 H A mem run-of) (known .2) (to-run n) (and-then ! (load ! (from ! (stop !)) (look ! 13 refl))
         (and-then ! (load ! (from ! (stop !)) (look ! 3 refl)) (and-then ! (load ! (from ! (stop !)) (look ! 15 refl))
         (and-then ! (load ! (from ! (stop !)) (look ! 6 refl)) (no-more !))))) (λ w.
@@ -408,16 +412,17 @@ module _ {M : Type 1} (𝓤 : URA M) (H : Heap 𝓤) (A : Atoms 𝓤) (W : Given
           (tks, (ans, (n, tt))),
         ) tt k)))) (id⊢ 𝓤 _) $ await ! tt $ pick ! (λ k.
         split ! $ move ! (1 ∷ []) $ use1 W (some (λ (ms : List ℕ × (Unit {0} × (List ℕ × (Unit {0} × Unit {0})))). ‵
-        (lasts runs-all.ended (κ₀, (κ₁, (κ₂, tt))) (tab γ₀ xs, (tks, (ans, (n, tt)))) ms) ⊛ raw
-        (fact 𝓤 (Ran n k (ms .0) (ms .1 .1 .0))))) (id⊢ 𝓤 _) $ pick ! (λ ms.
-        split ! $ move ! (1 ∷ []) $ heard ! (Ran n k (ms .0) (ms .1 .1 .0)) (λ er. fsplit ! $ fsplit ! $ move ! (1 ∷ []) $ feqL !
-        (λ f₀. move ! (1 ∷ []) $ fsplit ! $ move ! (1 ∷ []) $ fsplit ! $ fsplit ! $ move ! (1 ∷ []) $ feqL ! (λ f₂.
+        (lasts runs-all.ended (κ₀, (κ₁, (κ₂, tt))) (tab γ₀ xs, (tks, (ans, (n, tt)))) ms)
+        ⊛ (raw (fact 𝓤 (Ran n k (ms .0) (ms .1 .1 .0))) ⊛ raw (fact 𝓤 (k ≤ n))))) (id⊢ 𝓤 _) $ pick ! (λ ms.
+        split ! $ move ! (1 ∷ []) $ split ! $ heard ! (Ran n k (ms .0) (ms .1 .1 .0)) (λ er. heard ! (k ≤ n) (λ most.
+        fsplit ! $ fsplit ! $ move ! (1 ∷ []) $ feqL ! (λ f₀. move ! (1 ∷ []) $ fsplit ! $ move ! (1 ∷ []) $ fsplit ! $ fsplit ! $
+        move ! (1 ∷ []) $ feqL ! (λ f₂.
         move ! (4 ∷ []) $ split ! $ move ! (1 ∷ []) $ peeks ! usize (Is usize) (shows 𝓤 H A usize) k (w ∷ []) (λ ik.
         land ! (from ! (stop !)) (init ! 12 refl (uint-lawful 𝓤 H A W w64 .typed k _ ik .0)) $ rewrite ! 12
         (λ (v : Val). ‵ (fat fullShare (tyInt w64) l₆ 0 v)) (ap only (ik .0)) refl $
         -- [the result; the tokens; the answers' last list; …; …; the table's last list; what tickets own; _1; …; _14; room for
         -- _0; …]: `totals`
-        use0 W (raw (TotalsC 𝓤 H A mem run-of .pre (to-totals c n k))) (goes-totals c n k (ic .1) (in′ .1) (ik .1) (er .1)) $
+        use0 W (raw (TotalsC 𝓤 H A mem run-of .pre (to-totals c n k))) (goes-totals c n k (ic .1) (in′ .1) (ik .1) most) $
         calls-at ! fm (TotalsC 𝓤 H A mem run-of) (known .3) (to-totals c n k)
         (and-then ! (load ! (from ! (stop !)) (look ! 11 refl)) (and-then ! (load ! (from ! (stop !)) (look ! 12 refl))
         (and-then ! (load ! (from ! (stop !)) (look ! 13 refl)) (no-more !)))) (λ v.
@@ -435,8 +440,8 @@ module _ {M : Type 1} (𝓤 : URA M) (H : Heap 𝓤) (A : Atoms 𝓤) (W : Given
         (9 ∷ 17 ∷ []) $ free1 ! $ move ! (9 ∷ 16 ∷ []) $ free1 ! $ move ! (9 ∷ 15 ∷ []) $ free1 ! $ move ! (9 ∷ 14 ∷ []) $
         free1 ! $ move ! (9 ∷ 13 ∷ []) $ free1 ! $ move ! (9 ∷ 12 ∷ []) $ free1 ! $ move ! (9 ∷ 11 ∷ []) $ free1 ! $ move !
         (9 ∷ 10 ∷ []) $ free1 ! $ free0 ! $
-        keep ! (3 ∷ 7 ∷ 8 ∷ 4 ∷ 0 ∷ []) $ by ! (exits r v (ms .0) (ms .1 .1 .0) f₀ f₂ (records-done xs ys zs (ea .0) en refl
-        (er .0) el))))))))))))))))))))))))))))))))))))))))
+        keep ! (3 ∷ 7 ∷ 8 ∷ 4 ∷ 0 ∷ []) $ by ! (exits r v (ms .0) (ms .1 .1 .0) f₀ f₂ (records-done xs ys zs ea en refl
+        er el))))))))))))))))))))))))))))))))))))))))))
 
 module _ {M : Type 1} (𝓤 : URA M) (H : Heap 𝓤) (A : Atoms 𝓤) (W : Given 𝓤 H A) (mem : Memory → SProp 𝓤) (run-of : Routine
     → Fun 𝓤) (𝓣 : Tables 𝓤 H) (known : Known 𝓤 H A mem run-of (𝓣 .C)) where
@@ -444,7 +449,7 @@ module _ {M : Type 1} (𝓤 : URA M) (H : Heap 𝓤) (A : Atoms 𝓤) (W : Given
   list-walks = walked 𝓤 H A list.ended stayed (list.clauses 𝓤 H A mem run-of) (WpFn 𝓤 H (𝓣 .C) (𝓣 .Λ) code.function)
       (λ κs. (slice-vals, (slice-vals, (slice-vals, tt))))
       (λ κs. (
-        mut-slice-tells (named 0) (κs .0) u32,
+        mut-slice-tells (named 0) (κs .0) Element,
         (
           shr-slice-tells (named 1) (κs .1 .0) R,
           (mut-slice-tells (named 2) (κs .1 .1 .0) u8, tt),
@@ -458,7 +463,7 @@ module _ {M : Type 1} (𝓤 : URA M) (H : Heap 𝓤) (A : Atoms 𝓤) (W : Given
 
   list-meets : Meets 𝓤 H A list.signature (WpFn 𝓤 H (𝓣 .C) (𝓣 .Λ) code.function) (list.spec 𝓤 H A mem run-of)
   list-meets = walk-meets 𝓤 H A list.ended stayed W (
-    goes-gave-slice 𝓤 H A W 3 0 tt (plain (λ _. u32)),
+    goes-gave-slice 𝓤 H A W 3 0 tt (plain (λ _. Element)),
     (goes-none-slice 𝓤 H A W 3 (1 ∷ []) tt (plain (λ _. R)) yes, (goes-gave-slice 𝓤 H A W 3 2 tt (plain (λ _. u8)), tt)),
   )
       (list.clauses 𝓤 H A mem run-of) (WpFn 𝓤 H (𝓣 .C) (𝓣 .Λ) code.function) (WpFn-mono 𝓤 H (W .laws) 𝓣 code.function) list-walks

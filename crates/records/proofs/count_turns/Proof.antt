@@ -2,7 +2,7 @@
 use Prim.Native.Nat.{ℕ, zero, suc}
 use mathlib.Core.Path.{_≡_, refl}
 use borrow.Author.Needs.{needs}
-use Rattle.records.specs.Turns.{turnsOf}
+use Rattle.records.specs.RecordTurns.{turnsOf}
 use Rattle.records.proofs.count_turns.Statement.{statement}
 use Rattle.records.proofs.count_turns.Tie as tie
 

@@ -72,10 +72,10 @@ use denote.Triple.Walked.{
   walk-meets,
 }
 use denote.Exit.{yes}
-use Rattle.records.specs.Turns.{blank}
-use Rattle.ticket_form.specs.declared.Ticket.{Ticket}
-use Rattle.ticket_form.proofs.Ticket as T
-use Rattle.ticket_form.proofs.Ticket.Laws as T′
+use Rattle.records.specs.RecordTurns.{blank}
+use Rattle.ticket_form.specs.declared.fields.Ticket.{Ticket}
+use Rattle.ticket_form.proofs.fields.Ticket as T
+use Rattle.ticket_form.proofs.fields.Ticket.Laws as T′
 use Rattle.records.proofs.ticket_at.Key.{name as #ticket-at}
 use Rattle.records.proofs.ticket_at as at
 use Rattle.records.proofs.ticket_at.Statement as stated

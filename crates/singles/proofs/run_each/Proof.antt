@@ -1,29 +1,36 @@
--- `run_each`: the invariant is `ByteWalk`, that i bytes are run as k tickets, no more tickets than bytes. The measure is the
+-- `run_each`: the invariant is `ByteWalk`, that the bytes before `from` are run as `place` tickets. The measure is the
 -- bytes that are left. Assumes nothing.
-use Prim.Native.Nat.{_-_, _≤_}
+use Prim.Native.Nat.{_-_}
 use lib.ListN.{length}
-use Rattle.rdfs.specs.Numbers.{recordLength}
-use Rattle.rdfs.specs.Register.{cut}
 use borrow.Author.Needs.{needs}
-use Rattle.list_form.proofs.Walked.{walked-start, walked-out, walked-words, walked-accepted}
-use Rattle.list.proofs.ByteWalk.{ByteWalk, one-run, byte-done, byte-place, byte-more}
+use Rattle.rdfs.specs.Numbers.{product}
+use Rattle.rdfs.specs.Register.{step}
+use Rattle.list_form.proofs.Runs.{register-keeps}
+use Rattle.list_form.proofs.ByteWalk.{
+  ByteWalk,
+  one-run,
+  byte-start,
+  byte-out,
+  byte-accepted,
+  byte-words,
+  byte-place,
+  byte-more,
+  register-done,
+}
 use Rattle.singles.proofs.run_each.Statement.{statement}
 use Rattle.singles.proofs.run_each.Tie as tie
 
 abbrev Inv-loop : tie.InvT-loop
-Inv-loop table₀ bytes answers₀ i₀ k₀ ok₀ table answers i k ok =
-    (i ≤ length bytes) × (k ≤ i) × ByteWalk table₀ answers₀ bytes i k ok table answers
+Inv-loop table₀ bytes answers₀ from₀ place₀ accepted₀ table answers from place accepted =
+    ByteWalk (step product) table₀ answers₀ bytes from place accepted table answers
 
 abbrev μ-loop : tie.MeasureT-loop
-μ-loop table₀ bytes answers₀ i₀ k₀ ok₀ table answers i k ok = length bytes - i
+μ-loop table₀ bytes answers₀ from₀ place₀ accepted₀ table answers from place accepted = length bytes - from
 
 loop-holds : tie.Need-loop-holds Inv-loop μ-loop
 loop-holds c =
-    let s = c .before .before .before in (
-      search needs,
-      search needs,
-      walked-start (s .args .table .now) (s .args .answers .now) (cut recordLength (s .args .bytes .now)),
-    )
+    let s = c .before .before .before in
+    byte-start (step product) (s .args .table .now) (s .args .answers .now) (s .args .bytes .now) (s .pre)
 
 find-end-requires : tie.Need-find-end-requires Inv-loop μ-loop
 find-end-requires c κs = search needs
@@ -40,55 +47,34 @@ part-apply-end c = search needs
 apply-requires : tie.Need-apply-requires Inv-loop μ-loop
 apply-requires c κs = search needs
 
-put-number-requires : tie.Need-put-number-requires Inv-loop μ-loop
-put-number-requires c κs =
+put-answer-requires : tie.Need-put-answer-requires Inv-loop μ-loop
+put-answer-requires c κs =
     let at-end = c .before .before .before .before .before .before in
-    let at-loop = at-end .before .before in
-    let s = at-loop .before .before .before .before in (
-      byte-place (s .args .table .now) (s .args .answers .now) (s .args .bytes .now) (s .pre) (at-loop .loop .inv .2)
-          (at-end .before .loop-test .taken) (at-end .find-end .ensures),
-      walked-accepted (s .args .table .now) (s .args .answers .now) (cut recordLength (s .args .bytes .now))
-          (s .pre) (at-loop .loop .inv .2),
-    )
+    let walk = at-end .before .before .loop .inv in
+    (byte-place walk (at-end .before .loop-test .taken) (at-end .find-end .ensures), byte-accepted walk)
 
-add-k : tie.Need-add-k Inv-loop μ-loop
-add-k c = search needs
+add-place : tie.Need-add-place Inv-loop μ-loop
+add-place c = search needs
 
 loop-less : tie.Need-loop-less Inv-loop μ-loop
 loop-less c = search needs
 
 loop-again : tie.Need-loop-again Inv-loop μ-loop
 loop-again c =
-    let at-end = c .before .before .before .before .before .before .before .before .before in
-    let at-loop = at-end .before .before in
-    let s = at-loop .before .before .before .before in
-    let put = c .before .before .put-number .ensures in (
-      search needs,
-      search needs,
-      byte-more (s .args .table .now) (s .args .answers .now) (s .args .bytes .now) (s .pre) (at-loop .loop .inv .2)
-          (at-end .before .loop-test .taken) (at-end .find-end .ensures)
-          (one-run (c .before .before .before .before .before .before .apply .ensures) (put .0) (put .1)),
-    )
+    let put = c .before .before .put-answer .ensures in
+    let at-call = c .before .before .before .before .before .before in
+    let at-end = at-call .before .before .before in
+    byte-more (at-end .before .before .loop .inv) (at-end .before .loop-test .taken) (at-end .find-end .ensures)
+    (one-run (at-call .apply .ensures .number) (at-call .apply .ensures .words) (put .0) (put .1))
 
 same-length : tie.Need-same-length Inv-loop μ-loop
-same-length c =
-    let at-loop = c .before in
-    let s = at-loop .before .before .before .before in
-    walked-words (s .args .table .now) (s .args .answers .now) (cut recordLength (s .args .bytes .now))
-    (s .pre) (at-loop .loop .inv .2)
+same-length c = byte-words (c .before .loop .inv) register-keeps
 
 same-length-2 : tie.Need-same-length-2 Inv-loop μ-loop
-same-length-2 c =
-    let at-loop = c .before in
-    let s = at-loop .before .before .before .before in
-    walked-out (s .args .table .now) (s .args .answers .now) (cut recordLength (s .args .bytes .now))
-    (s .pre) (at-loop .loop .inv .2)
+same-length-2 c = byte-out (c .before .loop .inv)
 
 returns : tie.Need-returns Inv-loop μ-loop
-returns c =
-    let at-loop = c .before in
-    let s = at-loop .before .before .before .before in
-    byte-done (s .args .table .now) (s .args .answers .now) (s .args .bytes .now) (c .loop-test .left) (at-loop .loop .inv .2)
+returns c = register-done (c .before .loop .inv) (c .loop-test .left)
 
 pub run-each-spec : {M : Type 1} → statement M
 run-each-spec =
@@ -102,8 +88,8 @@ run-each-spec =
     part-apply-start
     part-apply-end
     apply-requires
-    put-number-requires
-    add-k
+    put-answer-requires
+    add-place
     loop-less
     loop-again
     same-length

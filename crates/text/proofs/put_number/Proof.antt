@@ -4,16 +4,17 @@ use mathlib.Core.Path.{_≡_, refl, subst}
 use native.Mathlib.Omega.{arith}
 use lib.ListN.{length}
 use borrow.Author.Needs.{needs}
-use Rattle.text.proofs.Put.{few-digits, digits-fit, Copied, copied-none, copied-more, number-put}
+use Rattle.text.proofs.PutText.{few-digits, digits-fit, Copied, copied-none, copied-more, number-put}
 use Rattle.text.proofs.put_number.Statement.{statement}
 use Rattle.text.proofs.put_number.Tie as tie
 
 abbrev Inv-loop : tie.InvT-loop
-Inv-loop out₀ at n after digits k i₀ out i = (i ≤ k) × (k ≤ 20) × (at + k < length out) × (length out ≡ length out₀)
-    × Copied at i out₀ digits out
+Inv-loop out₀ at number after digits count place₀ out place =
+    (place ≤ count) × (count ≤ 20) × (at + count < length out) × (length out ≡ length out₀)
+    × Copied at place out₀ digits out
 
 abbrev μ-loop : tie.MeasureT-loop
-μ-loop out₀ at n after digits k i₀ out i = k - i
+μ-loop out₀ at number after digits count place₀ out place = count - place
 
 decimal-requires : tie.Need-decimal-requires Inv-loop μ-loop
 decimal-requires c κs = search needs
@@ -23,9 +24,9 @@ loop-holds c =
     let s = c .before .before .before in
     let asked = c .decimal in (
       search needs,
-      few-digits 20 (s .args .n) (asked .result) (omega arith) (omega (arith, s .fits .n .fits))
+      few-digits 20 (s .args .number) (asked .result) (omega arith) (omega (arith, s .fits .number .fits))
           (asked .ensures .1 .0),
-      digits-fit (s .args .n) (s .args .after) (s .args .at) (asked .result) (s .args .out .now)
+      digits-fit (s .args .number) (s .args .after) (s .args .at) (asked .result) (s .args .out .now)
           (s .pre) (asked .ensures .1 .0),
       refl,
       copied-none (s .args .at) (s .args .out .now) (asked .last .1 .0),
@@ -40,8 +41,8 @@ add-out c = search needs
 slice-write-out : tie.Need-slice-write-out Inv-loop μ-loop
 slice-write-out c = search needs
 
-add-i : tie.Need-add-i Inv-loop μ-loop
-add-i c = search needs
+add-place : tie.Need-add-place Inv-loop μ-loop
+add-place c = search needs
 
 loop-less : tie.Need-loop-less Inv-loop μ-loop
 loop-less c = search needs
@@ -51,13 +52,13 @@ loop-again c =
     let at-loop = c .before .loop in
     let asked = c .before .before .decimal in
     let s = c .before .before .before .before .before in
-    let in-digits : at-loop .i < length (asked .last .1 .0) = omega (arith, c .loop-test .taken, asked .ensures .0 .0) in
-    let in-out : s .args .at + at-loop .i < length (at-loop .out) = omega (arith, c .loop-test .taken, at-loop .inv .2) in (
+    let in-digits : at-loop .place < length (asked .last .1 .0) = omega (arith, c .loop-test .taken, asked .ensures .0 .0) in
+    let in-out : s .args .at + at-loop .place < length (at-loop .out) = omega (arith, c .loop-test .taken, at-loop .inv .2) in (
       search needs,
       at-loop .inv .1,
       search needs,
       search needs,
-      copied-more (s .args .at) (at-loop .i) (s .args .out .now)
+      copied-more (s .args .at) (at-loop .place) (s .args .out .now)
           (asked .last .1 .0) (at-loop .out) in-out in-digits (at-loop .inv .4),
     )
 
@@ -82,8 +83,8 @@ returns c =
     let asked = c .before .before .decimal in
     let s = c .before .before .before .before .before in
     let k = asked .result in
-    let whole : at-loop .i ≡ k = omega (arith, at-loop .inv .0, c .loop-test .left) in
-    number-put (s .args .at) (s .args .n) k (s .args .after) (s .args .out .now) (asked .last .1 .0) (at-loop .out)
+    let whole : at-loop .place ≡ k = omega (arith, at-loop .inv .0, c .loop-test .left) in
+    number-put (s .args .at) (s .args .number) k (s .args .after) (s .args .out .now) (asked .last .1 .0) (at-loop .out)
     (at-loop .inv .2) (asked .ensures .1 .0) (asked .ensures .1 .1)
     (subst (λ i. Copied (s .args .at) i (s .args .out .now) (asked .last .1 .0) (at-loop .out)) whole (at-loop .inv .4))
 
@@ -98,7 +99,7 @@ put-number-spec =
     array-read-out
     add-out
     slice-write-out
-    add-i
+    add-place
     loop-less
     loop-again
     add-out-2

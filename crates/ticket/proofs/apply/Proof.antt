@@ -1,11 +1,11 @@
 -- `apply`: the check of the table, then the ticket. Assumes nothing.
 use mathlib.Core.Path.{sym, _∙_}
 use denote.Ref.{now}
-use Rattle.rdfs.specs.Numbers.{product}
-use Rattle.rdfs.proofs.Steps.{checked-table}
-use Rattle.ticket.proofs.RefusedSteps.{table-refused}
-use Rattle.ticket.proofs.Answers.{answered-refused}
 use borrow.Author.Needs.{needs}
+use Rattle.rdfs.specs.Numbers.{product}
+use Rattle.rdfs.proofs.tickets.Steps.{checked-table}
+use Rattle.ticket.proofs.RefusedSteps.{table-refused}
+use Rattle.ticket.proofs.CallAnswers.{answered-refused}
 use Rattle.ticket.proofs.apply.Statement.{statement}
 use Rattle.ticket.proofs.apply.Tie as tie
 
@@ -22,7 +22,7 @@ returns : tie.Need-returns
 returns c =
     let k = c .before .before .check in
     let s = c .before .before .before .before .before .before in
-    answered-refused (c .refused .result) (k .result) (c .refused .ensures) (table-refused (now (s .args .table))
+    answered-refused (c .refused .ensures) (table-refused (now (s .args .table))
     (now (s .args .ticket)) (k .result) (sym (k .ensures)) (c .before .if1 .taken))
 
 apply-checked-requires : tie.Need-apply-checked-requires

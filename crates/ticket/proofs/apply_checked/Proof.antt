@@ -1,12 +1,12 @@
 -- `apply_checked`: the length, then the ticket. Assumes nothing.
 use mathlib.Core.Path.{subst}
 use denote.Ref.{now}
+use borrow.Author.Needs.{needs}
 use Rattle.rdfs.specs.Numbers.{product}
 use Rattle.rdfs.specs.Register.{step}
 use Rattle.ticket.specs.Answered.{Answered}
 use Rattle.ticket.proofs.RefusedSteps.{length-refused}
-use Rattle.ticket.proofs.Answers.{answered-refused}
-use borrow.Author.Needs.{needs}
+use Rattle.ticket.proofs.CallAnswers.{answered-refused}
 use Rattle.ticket.proofs.apply_checked.Statement.{statement}
 use Rattle.ticket.proofs.apply_checked.Tie as tie
 
@@ -16,7 +16,7 @@ refused-requires c κs = search needs
 returns : tie.Need-returns
 returns c =
     let s = c .before .before .before .before in
-    answered-refused (c .refused .result) 4 (c .refused .ensures) (length-refused (now (s .args .table)) (now (s .args .ticket))
+    answered-refused (c .refused .ensures) (length-refused (now (s .args .table)) (now (s .args .ticket))
     (s .pre) (c .before .if1 .taken))
 
 decode-requires : tie.Need-decode-requires

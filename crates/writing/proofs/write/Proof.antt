@@ -1,7 +1,7 @@
 -- `write`: a table that the check refuses is refused so; any other is consistent. Assumes nothing.
 use mathlib.Core.Path.{sym, _∙_}
 use Rattle.rdfs.specs.Numbers.{product}
-use Rattle.rdfs.proofs.Steps.{checked-table}
+use Rattle.rdfs.proofs.tickets.Steps.{checked-table}
 use Rattle.writing.proofs.WriteCall.{write-refused}
 use borrow.Author.Needs.{needs}
 use Rattle.writing.proofs.write.Statement.{statement}
@@ -12,13 +12,15 @@ check-requires c κs = search needs
 
 returns : tie.Need-returns
 returns c =
-    let s = c .before .before .before .before .args in
-    write-refused (s .t .now) (s .output .now) (c .before .check .result) (c .before .check .ensures) (c .if1 .taken)
+    let s = c .before .before .before .before in
+    write-refused (s .args .table .now) (s .args .output .now) (c .before .check .result) (c .before .check .ensures)
+    (c .if1 .taken)
 
 write-checked-requires : tie.Need-write-checked-requires
 write-checked-requires c κs =
     let at-check = c .before .before in
-    checked-table product (at-check .before .before .before .args .t .now) (sym (at-check .check .ensures) ∙ c .before .if1 .left)
+    let s = at-check .before .before .before in
+    checked-table product (s .args .table .now) (sym (at-check .check .ensures) ∙ c .before .if1 .left)
 
 same-length : tie.Need-same-length
 same-length c = search needs

@@ -1,5 +1,5 @@
-//! Refusals 9 and 10 by lookups. On a consistent table no chain of side effects has to be followed to find a clash:
-//! what an asked fact brings with it can only clash in the ways below.
+//! Refusals 9 and 10 by lookups. On a consistent table no chain of side effects has to be followed to find a
+//! clash: what an asked fact brings with it can only clash in the ways below.
 
 use super::fact::*;
 use super::form::Ticket;
@@ -17,7 +17,7 @@ pub trait Lookups {
 }
 
 /// Refusal 9: the insertion uses a property that is not in the table.
-pub fn uses_unknown(table: &impl Lookups, t: &Ticket) -> bool {
+pub fn uses_unknown_property(table: &impl Lookups, t: &Ticket) -> bool {
     match t.kind {
         SUBPROPERTY => !table.is(PROPERTY, t.a) || !table.is(PROPERTY, t.b),
         VALUE => !table.is(PROPERTY, t.c),
@@ -57,8 +57,8 @@ fn subclass_clashes(table: &impl Lookups, x: u8, y: u8) -> bool {
     circle || is_other(table, CLASS, x) || is_other(table, CLASS, y)
 }
 
-/// A circle of properties (rule 21), ranges of which one is the mark (H4), or a circle among the class links that the
-/// domains and ranges need (rules 22, 23), each alone or the two together.
+/// A circle of properties (rule 21), ranges of which one is the mark (H4), or a circle among the class links
+/// that the domains and ranges need (rules 22, 23), each alone or the two together.
 fn subproperty_clashes(table: &impl Lookups, p: u8, q: u8) -> bool {
     if p == q || table.is_subproperty(q, p) {
         return true;

@@ -38,7 +38,7 @@ pub fn ticket_of(bytes: &[u8]) -> Result<Ticket, u8> {
     if has_bad_ids(inserts, kind, [a, b, c]) {
         return Err(7);
     }
-    if !inserts && is_never_deleted(kind, a, b) {
+    if !inserts && is_guarded(kind, a, b) {
         return Err(8);
     }
     Ok(Ticket { inserts, kind, a, b, c })
@@ -56,7 +56,7 @@ fn has_bad_ids(inserts: bool, kind: u8, [a, b, c]: [u8; 3]) -> bool {
     }
 }
 
-fn is_never_deleted(kind: u8, a: u8, b: u8) -> bool {
+fn is_guarded(kind: u8, a: u8, b: u8) -> bool {
     match kind {
         CLASS => a == RESOURCE,
         SUBCLASS | MEMBER => b == RESOURCE,

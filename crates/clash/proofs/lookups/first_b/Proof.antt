@@ -17,7 +17,7 @@ second-of-requires c κs = search needs
 returns : tie.Need-returns
 returns c =
     let s = c .before .before .before in
-    let b = first-b-of (now (s .args .t)) (s .args .n) (s .args .k) (s .args .p) (s .pre .0) in
+    let b = first-b-of (now (s .args .table)) (s .args .count) (s .args .k) (s .args .p) (s .pre .counted) in
     let e = c .second-of .ensures ∙ (ap secondOf (c .before .first-with .ensures) ∙ b .0) in
     (e, subst Id (sym e) (b .1))
 

@@ -1,58 +1,52 @@
--- `lookups::first_with`: the first word of the run, if the search ends in it. Assumes nothing.
+-- `lookups::first_with`: the first word of the span, if the search ends in it. Assumes nothing.
 use native.Mathlib.Omega.{arith}
+use denote.Ref.{now}
 use borrow.Author.Needs.{needs}
-use Rattle.table.proofs.Counted.{counted-search}
-use Rattle.clash.proofs.LookedRun.{run-found}
+use Rattle.table.proofs.CountedLaws.{counted-search}
+use Rattle.clash.proofs.SpanFirst.{Span, span-found}
 use Rattle.clash.proofs.lookups.first_with.Statement.{statement}
 use Rattle.clash.proofs.lookups.first_with.Tie as tie
+
+-- From where the search ends: the start, and the span.
+abbrev start : tie.After-count-below → tie.Start
+start c = c .before .before .before
+
+span : (c : tie.After-count-below) → let s = start c in
+    Span (now (s .args .table)) (s .args .count) (s .args .k) (s .args .p) (c .before .word-of .result) (c .count-below .result)
+span c =
+    let s = start c in
+    span-found (s .pre .counted) (s .pre .id) (c .before .word-of .ensures) (c .count-below .ensures)
 
 word-of-requires : tie.Need-word-of-requires
 word-of-requires c κs = search needs
 
 count-below-requires : tie.Need-count-below-requires
-count-below-requires c κs = counted-search (c .before .before .pre .0)
+count-below-requires c κs = counted-search (c .before .before .pre .counted)
 
-mul-w : tie.Need-mul-w
-mul-w c =
-    let within = counted-search (c .before .before .before .before .pre .0) .0 in
+mul-word : tie.Need-mul-word
+mul-word c =
+    let within = counted-search (start (c .before) .pre .counted) .0 in
     omega arith
 
-shared-slice-read-w : tie.Need-shared-slice-read-w
-shared-slice-read-w c =
-    let s = c .before .before .before .before .before in
-    let within = counted-search (s .pre .0) .0 in
+shared-slice-read-word : tie.Need-shared-slice-read-word
+shared-slice-read-word c =
+    let within = counted-search (start (c .before .before) .pre .counted) .0 in
     omega arith
 
 sub-if2 : tie.Need-sub-if2
-sub-if2 c =
-    let found = c .before .before in
-    let s = found .before .before .before in
-    let run = run-found (s .pre .0) (s .pre .2) (found .before .word-of .ensures) (found .count-below .ensures) in
-    omega (arith, run .from (c .before .if1 .taken))
+sub-if2 c = omega (arith, span (c .before .before) .above (c .before .if1 .taken))
 
 mul-if2 : tie.Need-mul-if2
 mul-if2 c = search needs
 
 returns : tie.Need-returns
-returns c =
-    let found = c .before .before .before in
-    let s = found .before .before .before in
-    let run = run-found (s .pre .0) (s .pre .2) (found .before .word-of .ensures) (found .count-below .ensures) in
-    run .some (c .before .before .if1 .taken) (omega arith)
+returns c = span (c .before .before .before) .some (c .before .before .if1 .taken) (omega arith)
 
 returns-2 : tie.Need-returns-2
-returns-2 c =
-    let found = c .before .before .before in
-    let s = found .before .before .before in
-    let run = run-found (s .pre .0) (s .pre .2) (found .before .word-of .ensures) (found .count-below .ensures) in
-    run .none (λ _. omega arith)
+returns-2 c = span (c .before .before .before) .none (λ _. omega arith)
 
 returns-3 : tie.Need-returns-3
-returns-3 c =
-    let found = c .before in
-    let s = found .before .before .before in
-    let run = run-found (s .pre .0) (s .pre .2) (found .before .word-of .ensures) (found .count-below .ensures) in
-    run .none (λ h. absurd (omega arith))
+returns-3 c = span (c .before) .none (λ h. absurd (omega arith))
 
 pub first-with-spec : {M : Type 1} → statement M
 first-with-spec =
@@ -60,8 +54,8 @@ first-with-spec =
     (tie.spec
     word-of-requires
     count-below-requires
-    mul-w
-    shared-slice-read-w
+    mul-word
+    shared-slice-read-word
     sub-if2
     mul-if2
     returns

@@ -33,8 +33,8 @@ returns-4 : tie.Need-returns-4
 returns-4 c =
     let range = c .before in
     let domain = range .before .before in
-    let mark = domain .before .before in
-    or-rest (told (mark .before .is-mixed .ensures) (mark .if1 .left))
+    let mixed = domain .before .before in
+    or-rest (told (mixed .before .is-mixed .ensures) (mixed .if1 .left))
     (or-rest (told (domain .before .is-backwards .ensures) (domain .if2 .left))
     (or-rest (told (range .before .is-backwards2 .ensures) (range .if3 .left)) (c .closes-cycle .ensures)))
 

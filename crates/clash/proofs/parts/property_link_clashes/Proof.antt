@@ -49,7 +49,7 @@ returns-3 c =
     or-rest (ne-eqb _ _ (back .before .before .if1 .left))
     (or-rest (told (back .before .has-fact .ensures) (back .if2 .left))
     (c .ends-clash .ensures
-    ∙ ends-same (factsOf (now (s .args .t))) (domains .before .first-b .ensures .0) (domains .first-b2 .ensures .0)
+    ∙ ends-same (factsOf (now (s .args .table))) (domains .before .first-b .ensures .0) (domains .first-b2 .ensures .0)
     (c .before .before .first-b3 .ensures .0) (c .before .first-b4 .ensures .0)))
 
 pub property-link-clashes-spec : {M : Type 1} → statement M

@@ -22,7 +22,7 @@ array-copy-out-result : tie.Need-array-copy-out-result
 array-copy-out-result c = search needs
 
 returns : tie.Need-returns
-returns c = sym (List·getD-map ruleOf order (c .before .args .i) R4)
+returns c = sym (List·getD-map ruleOf order (c .before .args .place) R4)
 
 pub rule-at-spec : {M : Type 1} → statement M
 rule-at-spec = tie.close (tie.spec array-copy-out-result returns)

@@ -1,7 +1,8 @@
--- `visit::visit` meets its contract. The loop's invariant: each rule before place `i` is met. The measure is the number of rules
+-- `visit::visit` meets its contract. The loop's invariant: each rule before place `at` is met. The measure is the number of rules
 -- left. Assumes nothing.
 use Prim.Native.Nat.{_-_}
 use native.Mathlib.Omega.{arith}
+use lib.ListN.{length}
 use borrow.Author.Needs.{needs}
 use denote.Ref.{now}
 use Rattle.rdfs.specs.Rules.{Meets}
@@ -13,13 +14,13 @@ use Rattle.consistency.proofs.visit.visit.Statement.{statement}
 use Rattle.consistency.proofs.visit.visit.Tie as tie
 
 abbrev Inv-loop : tie.InvT-loop
-Inv-loop t s i₀ i = MetBefore (graphOf t) rulesInOrder i
+Inv-loop table index at₀ at = MetBefore (graphOf table) rulesInOrder at
 
 abbrev μ-loop : tie.MeasureT-loop
-μ-loop t s i₀ i = 28 - i
+μ-loop table index at₀ at = length rulesInOrder - at
 
 loop-holds : tie.Need-loop-holds Inv-loop μ-loop
-loop-holds c = visit-none (graphOf (now (c .before .before .args .t))) rulesInOrder
+loop-holds c = visit-none (graphOf (now (c .before .before .args .table))) rulesInOrder
 
 rule-at-requires : tie.Need-rule-at-requires Inv-loop μ-loop
 rule-at-requires c κs = search needs
@@ -29,7 +30,7 @@ meets-requires c κs =
     let at-loop = c .before .before in
     let entry = at-loop .before .before .before in (
       entry .pre,
-      rw (c .rule-at .ensures) (visit-earlier (graphOf (now (entry .args .t))) (at-loop .loop .i)
+      rw (c .rule-at .ensures) (visit-earlier (graphOf (now (entry .args .table))) (at-loop .loop .at)
           (c .before .loop-test .taken) (at-loop .loop .inv)),
     )
 
@@ -37,15 +38,15 @@ returns : tie.Need-returns Inv-loop μ-loop
 returns c =
     let at-loop = c .before .before .before .before in
     let entry = at-loop .before .before .before in
-    let G = graphOf (now (entry .args .t)) in
-    let i = at-loop .loop .i in
+    let G = graphOf (now (entry .args .table)) in
+    let i = at-loop .loop .at in
     let answer = rw (c .before .before .rule-at .ensures) at (c .before .meets .ensures) in
     rw (c .before .before .rule-at .ensures)
     (visit-stops G rulesInOrder i (c .before .before .before .loop-test .taken) (at-loop .loop .inv)
     (decided-broken (c .before .meets .result) (Meets G (ruleAt rulesInOrder i)) answer (c .if1 .taken)))
 
-add-i : tie.Need-add-i Inv-loop μ-loop
-add-i c = omega arith
+add-at : tie.Need-add-at Inv-loop μ-loop
+add-at c = omega arith
 
 loop-less : tie.Need-loop-less Inv-loop μ-loop
 loop-less c = omega arith
@@ -54,8 +55,8 @@ loop-again : tie.Need-loop-again Inv-loop μ-loop
 loop-again c =
     let at-loop = c .before .before .before .before in
     let entry = at-loop .before .before .before in
-    let G = graphOf (now (entry .args .t)) in
-    let i = at-loop .loop .i in
+    let G = graphOf (now (entry .args .table)) in
+    let i = at-loop .loop .at in
     let answer = rw (c .before .before .rule-at .ensures) at (c .before .meets .ensures) in
     visit-more G rulesInOrder i (at-loop .loop .inv) (decided-met (c .before .meets .result) (Meets G (ruleAt rulesInOrder i))
     answer (c .if1 .left))
@@ -63,7 +64,7 @@ loop-again c =
 returns-2 : tie.Need-returns-2 Inv-loop μ-loop
 returns-2 c =
     let entry = c .before .before .before .before in
-    visit-ends (graphOf (now (entry .args .t))) rulesInOrder (c .before .loop .i) (c .loop-test .left) (c .before .loop .inv)
+    visit-ends (graphOf (now (entry .args .table))) rulesInOrder (c .before .loop .at) (c .loop-test .left) (c .before .loop .inv)
 
 pub visit-spec : {M : Type 1} → statement M
 visit-spec =
@@ -75,7 +76,7 @@ visit-spec =
     rule-at-requires
     meets-requires
     returns
-    add-i
+    add-at
     loop-less
     loop-again
     returns-2)

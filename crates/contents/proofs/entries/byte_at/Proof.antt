@@ -1,4 +1,4 @@
--- `contents::byte_at`: a byte of a slice is below 256. Assumes nothing.
+-- `entries::byte_at`: a byte of a slice is below 256. Assumes nothing.
 use native.Mathlib.Omega.{arith}
 use borrow.Author.Needs.{needs}
 use Rattle.contents.proofs.entries.byte_at.Statement.{statement}
@@ -8,10 +8,14 @@ shared-slice-read-result : tie.Need-shared-slice-read-result
 shared-slice-read-result c = search needs
 
 cast-result : tie.Need-cast-result
-cast-result c = omega (arith, c .shared-slice-known .given (c .before .args .i))
+cast-result c =
+    let s = c .before in
+    omega (arith, c .shared-slice-known .given (s .args .place))
 
 returns : tie.Need-returns
-returns c = (search needs, omega (arith, c .shared-slice-known .given (c .before .args .i)))
+returns c =
+    let s = c .before in
+    (search needs, omega (arith, c .shared-slice-known .given (s .args .place)))
 
 pub byte-at-spec : {M : Type 1} → statement M
 byte-at-spec = tie.close (tie.spec shared-slice-read-result cast-result returns)

@@ -3,7 +3,7 @@ use mathlib.Core.Path.{subst, ap, _∙_}
 use borrow.Author.Needs.{needs}
 use denote.Ref.{now}
 use Rattle.rdfs.specs.Words.{filled}
-use Rattle.print_facts.specs.Text.{Printed}
+use Rattle.print_facts.specs.FactLines.{WordsPrinted}
 use Rattle.print_facts.proofs.Read.{filled-read}
 use Rattle.print_facts.proofs.lines.put_facts.Statement.{statement}
 use Rattle.print_facts.proofs.lines.put_facts.Tie as tie
@@ -28,7 +28,7 @@ returns c =
     let put = c .before .before in
     let reading = put .before .before .before .before .read in
     let image = now (put .before .before .before .before .before .before .before .before .args .image) in
-    subst (λ l. Printed l (put .put-lines .result) (put .put-lines .last .1 .0)) (ap filled (reading .ensures .1)
+    subst (λ l. WordsPrinted l (put .put-lines .result) (put .put-lines .last .1 .0)) (ap filled (reading .ensures .1)
     ∙ filled-read image) (put .put-lines .ensures)
 
 pub put-facts-spec : {M : Type 1} → statement M

@@ -19,21 +19,21 @@ use Rattle.print_facts.proofs.lines.put_lines.Statement.{statement}
 use Rattle.print_facts.proofs.lines.put_lines.Tie as tie
 
 abbrev Inv-loop : tie.InvT-loop
-Inv-loop t out₀ i₀ at₀ out i at = (i ≤ length t) × (length out ≡ length out₀) × Gathered t i at out
+Inv-loop table out₀ place₀ at₀ out place at = (place ≤ length table) × (length out ≡ length out₀) × Gathered table place at out
 
 abbrev μ-loop : tie.MeasureT-loop
-μ-loop t out₀ i₀ at₀ out i at = length t - i
+μ-loop table out₀ place₀ at₀ out place at = length table - place
 
 loop-holds : tie.Need-loop-holds Inv-loop μ-loop
 loop-holds c =
     let s = c .before .before in
-    (search needs, refl, gathered-start (now (s .args .t)) (s .args .out .now))
+    (search needs, refl, gathered-start (now (s .args .table)) (s .args .out .now))
 
-mul-w : tie.Need-mul-w Inv-loop μ-loop
-mul-w c = search needs
+mul-word : tie.Need-mul-word Inv-loop μ-loop
+mul-word c = search needs
 
-shared-slice-read-w : tie.Need-shared-slice-read-w Inv-loop μ-loop
-shared-slice-read-w c = search needs
+shared-slice-read-word : tie.Need-shared-slice-read-word Inv-loop μ-loop
+shared-slice-read-word c = search needs
 
 put-line-requires : tie.Need-put-line-requires Inv-loop μ-loop
 put-line-requires c κs =
@@ -41,8 +41,8 @@ put-line-requires c κs =
     let s = at-loop .before .before .before in
     omega (arith, c .before .before .before .loop-test .taken, at-loop .loop .inv .1, at-loop .loop .inv .2 .short, s .pre)
 
-add-i : tie.Need-add-i Inv-loop μ-loop
-add-i c = search needs
+add-place : tie.Need-add-place Inv-loop μ-loop
+add-place c = search needs
 
 loop-less : tie.Need-loop-less Inv-loop μ-loop
 loop-less c = search needs
@@ -51,7 +51,7 @@ loop-again : tie.Need-loop-again Inv-loop μ-loop
 loop-again c =
     let at-loop = c .before .before .before in
     let inside = c .before .before .loop-test .taken in
-    let t = now (at-loop .before .before .before .args .t) in
+    let t = now (at-loop .before .before .before .args .table) in
     let before = at-loop .loop .inv in
     ⊎-elim
     (λ w. (
@@ -73,7 +73,7 @@ returns : tie.Need-returns Inv-loop μ-loop
 returns c =
     let at-loop = c .before in
     let s = at-loop .before .before .before in
-    gathered-done (now (s .args .t)) (at-loop .loop .inv .2) (at-loop .loop .inv .0) (c .loop-test .left)
+    gathered-done (now (s .args .table)) (at-loop .loop .inv .2) (at-loop .loop .inv .0) (c .loop-test .left)
     (omega (arith, at-loop .loop .inv .1, s .pre))
 
 pub put-lines-spec : {M : Type 1} → statement M
@@ -83,10 +83,10 @@ put-lines-spec =
     Inv-loop
     μ-loop
     loop-holds
-    mul-w
-    shared-slice-read-w
+    mul-word
+    shared-slice-read-word
     put-line-requires
-    add-i
+    add-place
     loop-less
     loop-again
     same-length

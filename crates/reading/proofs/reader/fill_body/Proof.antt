@@ -1,73 +1,78 @@
--- `reader::fill_body`. The loop's invariant is `Stored`: the first i words stand in their places. The measure is the number of
+-- `reader::fill_body`. The loop's invariant is `Stored`: the first words stand in their places. The measure is the number of
 -- facts left. Assumes nothing.
 use native.Mathlib.Omega.{arith}
 use Prim.Native.Nat.{_-_}
+use Rattle.contents.specs.Legible.{formOf}
+use Rattle.contents.proofs.ImagePlaces.{fact-within}
 use Rattle.reading.proofs.Filling.{Stored, stored-start, stored-length, stored-more, stored-end}
-use Rattle.contents.proofs.Places.{fact-within}
-use borrow.Author.Needs.{needs}
 use Rattle.reading.proofs.reader.fill_body.Statement.{statement}
 use Rattle.reading.proofs.reader.fill_body.Tie as tie
 
 abbrev Inv-loop : tie.InvT-loop
-Inv-loop t₀ place image k from count size i₀ p₀ t i p = Stored image k from count t₀ place t i p
+Inv-loop form table₀ place image k from count size stored₀ at₀ table stored at =
+    Stored (formOf form) image k from count table₀ place table stored at
 
 abbrev μ-loop : tie.MeasureT-loop
-μ-loop t₀ place image k from count size i₀ p₀ t i p = count - i
+μ-loop form table₀ place image k from count size stored₀ at₀ table stored at = count - stored
 
 fact-size-requires : tie.Need-fact-size-requires Inv-loop μ-loop
-fact-size-requires c κs = search needs
+fact-size-requires c κs =
+    let s = c .before .before in
+    s .pre .0 .form
 
 loop-holds : tie.Need-loop-holds Inv-loop μ-loop
-loop-holds c = stored-start _ _ _ _ _ _
+loop-holds c = stored-start _ _ _ _ _ _ _
 
 word-at-requires : tie.Need-word-at-requires Inv-loop μ-loop
 word-at-requires c κs =
-    let start = c .before .before .before .before .before in (
-      start .pre .0,
-      start .pre .1,
-      fact-within (start .args .k) _ _ _ _ _ (c .before .loop .inv .at) (c .loop-test .taken)
-          (start .pre .2),
-    )
+    let s = c .before .before .before .before .before in
+    fact-within (s .pre .0) _ _ (c .before .loop .inv .at) (c .loop-test .taken)
 
-add-t : tie.Need-add-t Inv-loop μ-loop
-add-t c = omega (arith, c .before .loop-test .taken, c .before .before .before .before .before .before .pre .3)
+add-table : tie.Need-add-table Inv-loop μ-loop
+add-table c =
+    let s = c .before .before .before .before .before .before in
+    omega (arith, c .before .loop-test .taken, s .pre .1)
 
-mul-t : tie.Need-mul-t Inv-loop μ-loop
-mul-t c = omega arith
+mul-table : tie.Need-mul-table Inv-loop μ-loop
+mul-table c = omega arith
 
-slice-write-t : tie.Need-slice-write-t Inv-loop μ-loop
-slice-write-t c = omega (
-  arith,
-  c .before .loop-test .taken,
-  c .before .before .before .before .before .before .pre .3,
-  stored-length _ _ _ _ (c .before .before .loop .inv) (c .before .before .before .before .before .before .pre .3),
-)
+slice-write-table : tie.Need-slice-write-table Inv-loop μ-loop
+slice-write-table c =
+    let at-loop = c .before .before in
+    let s = at-loop .before .before .before .before in
+    omega (arith, c .before .loop-test .taken, s .pre .1, stored-length _ _ _ _ _ (at-loop .loop .inv) (s .pre .1))
 
-add-p : tie.Need-add-p Inv-loop μ-loop
-add-p c =
-    let start = c .before .before .before .before .before .before in
-    omega (
-      arith,
-      c .before .before .before .fact-size .ensures .0,
-      fact-within (start .args .k) _ _ _ _ _
-          (c .before .before .loop .inv .at) (c .before .loop-test .taken) (start .pre .2),
-    )
+add-at : tie.Need-add-at Inv-loop μ-loop
+add-at c =
+    let at-loop = c .before .before in
+    let at-fact-size = at-loop .before in
+    let s = at-fact-size .before .before .before in
+    let next = fact-within (s .pre .0) _ _ (at-loop .loop .inv .at) (c .before .loop-test .taken) in
+    omega (arith, at-fact-size .fact-size .ensures .0, next .within)
 
-add-i : tie.Need-add-i Inv-loop μ-loop
-add-i c = omega (arith, c .before .loop-test .taken)
+add-stored : tie.Need-add-stored Inv-loop μ-loop
+add-stored c = omega (arith, c .before .loop-test .taken)
 
 loop-less : tie.Need-loop-less Inv-loop μ-loop
 loop-less c = omega (arith, c .before .loop-test .taken)
 
 loop-again : tie.Need-loop-again Inv-loop μ-loop
-loop-again c = stored-more _ _ _ _ (c .before .before .loop .inv) (c .before .before .before .before .before .before .pre .3)
-    (c .before .loop-test .taken) _ (c .word-at .ensures) _ (c .before .before .before .fact-size .ensures .0)
+loop-again c =
+    let at-loop = c .before .before in
+    let at-fact-size = at-loop .before in
+    let s = at-fact-size .before .before .before in
+    stored-more _ _ _ _ _ (at-loop .loop .inv) (s .pre .1) (c .before .loop-test .taken) _ (c .word-at .ensures) _
+    (at-fact-size .fact-size .ensures .0)
 
 same-length : tie.Need-same-length Inv-loop μ-loop
-same-length c = stored-length _ _ _ _ (c .before .loop .inv) (c .before .before .before .before .before .pre .3)
+same-length c =
+    let s = c .before .before .before .before .before in
+    stored-length _ _ _ _ _ (c .before .loop .inv) (s .pre .1)
 
 returns : tie.Need-returns Inv-loop μ-loop
-returns c = stored-end _ _ _ _ (c .before .loop .inv) (c .before .before .before .before .before .pre .3) (c .loop-test .left)
+returns c =
+    let s = c .before .before .before .before .before in
+    stored-end _ _ _ _ _ (c .before .loop .inv) (s .pre .1) (c .loop-test .left)
 
 pub fill-body-spec : {M : Type 1} → statement M
 fill-body-spec =
@@ -78,11 +83,11 @@ fill-body-spec =
     fact-size-requires
     loop-holds
     word-at-requires
-    add-t
-    mul-t
-    slice-write-t
-    add-p
-    add-i
+    add-table
+    mul-table
+    slice-write-table
+    add-at
+    add-stored
     loop-less
     loop-again
     same-length

@@ -17,7 +17,7 @@ fill-words-requires c κs =
         arith,
         s .pre .0 .fits,
         ap length (s .pre .1),
-        length-replicate {A = ℕ} (length (s .args .t .now)) 0,
+        length-replicate {A = ℕ} (length (s .args .table .now)) 0,
       ),
     )
 
@@ -29,13 +29,15 @@ same-length c = search needs
 
 returns : tie.Need-returns
 returns c =
-    let at-check = c .before in
-    let at-fill = at-check .before .before .before .before in
-    let known = at-fill .before .before .shared-slice-known .given in
-    let s = at-fill .before .before .before .before .before in
-    read-refused (s .args .t .now) (s .args .image .now) 12
-    (work-malformed (s .args .t .now) (s .args .image .now) (λ i. omega (arith, known i)) (s .pre .0) _ (s .pre .1) _
-    (at-fill .fill-words .ensures) (at-check .check .result) (at-check .check .ensures) (c .if1 .taken)) (omega arith)
+    let at-fill-words = c .before .before .before .before .before in
+    let at-shared-slice-known = at-fill-words .before .before in
+    let s = at-shared-slice-known .before .before .before in
+    let known = at-shared-slice-known .shared-slice-known .given in
+    let words = s .args .table .now in
+    let bytes = s .args .image .now in
+    read-refused words bytes 12
+    (work-malformed words bytes (λ i. omega (arith, known i)) (s .pre .0) _ (s .pre .1) _ (at-fill-words .fill-words .ensures)
+    (c .before .check .result) (c .before .check .ensures) (c .if1 .taken)) (omega arith)
 
 same-length-2 : tie.Need-same-length-2
 same-length-2 c = search needs
@@ -43,21 +45,24 @@ same-length-2 c = search needs
 returns-2 : tie.Need-returns-2
 returns-2 c =
     let at-check = c .before .before in
-    let at-fill = at-check .before .before .before .before in
-    let known = at-fill .before .before .shared-slice-known .given in
-    let s = at-fill .before .before .before .before .before in
-    read-refused (s .args .t .now) (s .args .image .now) (at-check .check .result)
-    (work-answer (s .args .t .now) (s .args .image .now) (λ i. omega (arith, known i)) (s .pre .0) _ (s .pre .1) _
-    (at-fill .fill-words .ensures) (at-check .check .result) (at-check .check .ensures) (c .before .if1 .left))
-    (c .if2 .taken)
+    let at-fill-words = at-check .before .before .before .before in
+    let at-shared-slice-known = at-fill-words .before .before in
+    let s = at-shared-slice-known .before .before .before in
+    let known = at-shared-slice-known .shared-slice-known .given in
+    let words = s .args .table .now in
+    let bytes = s .args .image .now in
+    read-refused words bytes (at-check .check .result)
+    (work-answer words bytes (λ i. omega (arith, known i)) (s .pre .0) _ (s .pre .1) _ (at-fill-words .fill-words .ensures)
+    (at-check .check .result) (at-check .check .ensures) (c .before .if1 .left)) (c .if2 .taken)
 
 copy-words-requires : tie.Need-copy-words-requires
 copy-words-requires c κs =
-    let at-fill = c .before .before .before .before .before .before .before .before in
-    let known = at-fill .before .before .shared-slice-known .given in
-    let s = at-fill .before .before .before .before .before in
-    work-length (s .args .t .now) (s .args .image .now) (λ i. omega (arith, known i)) (s .pre .0) _ (s .pre .1) _
-    (at-fill .fill-words .ensures)
+    let at-fill-words = c .before .before .before .before .before .before .before .before in
+    let at-shared-slice-known = at-fill-words .before .before in
+    let s = at-shared-slice-known .before .before .before in
+    let known = at-shared-slice-known .shared-slice-known .given in
+    work-length (s .args .table .now) (s .args .image .now) (λ i. omega (arith, known i)) (s .pre .0) _ (s .pre .1) _
+    (at-fill-words .fill-words .ensures)
 
 same-length-3 : tie.Need-same-length-3
 same-length-3 c = search needs
@@ -67,18 +72,21 @@ same-length-4 c = search needs
 
 returns-3 : tie.Need-returns-3
 returns-3 c =
-    let at-copy = c .before .before in
-    let at-check = at-copy .before .before .before .before .before in
-    let at-fill = at-check .before .before .before .before in
-    let known = at-fill .before .before .shared-slice-known .given in
-    let s = at-fill .before .before .before .before .before in
-    let answered = work-answer (s .args .t .now) (s .args .image .now) (λ i. omega (arith, known i)) (s .pre .0) _ (s .pre .1) _
-    (at-fill .fill-words .ensures) (at-check .check .result) (at-check .check .ensures)
-    (at-copy .before .before .before .before .if1 .left) in
-    let held = work-held (s .args .t .now) (s .args .image .now) (λ i. omega (arith, known i)) (s .pre .0) _ (s .pre .1) _
-    (at-fill .fill-words .ensures) in
-    read-done (s .args .t .now) (s .args .image .now) (sym (at-copy .before .before .before .if2 .left) ∙ answered) _
-    (at-copy .copy-words .ensures ∙ held)
+    let at-copy-words = c .before .before in
+    let at-if2 = at-copy-words .before .before .before in
+    let at-if1 = at-if2 .before in
+    let at-check = at-if1 .before in
+    let at-fill-words = at-check .before .before .before .before in
+    let at-shared-slice-known = at-fill-words .before .before in
+    let s = at-shared-slice-known .before .before .before in
+    let known = at-shared-slice-known .shared-slice-known .given in
+    let words = s .args .table .now in
+    let bytes = s .args .image .now in
+    let answered = work-answer words bytes (λ i. omega (arith, known i)) (s .pre .0) _ (s .pre .1) _
+    (at-fill-words .fill-words .ensures) (at-check .check .result) (at-check .check .ensures) (at-if1 .if1 .left) in
+    let held = work-held words bytes (λ i. omega (arith, known i)) (s .pre .0) _ (s .pre .1) _
+    (at-fill-words .fill-words .ensures) in
+    read-done words bytes (sym (at-if2 .if2 .left) ∙ answered) _ (at-copy-words .copy-words .ensures ∙ held)
 
 pub read-through-spec : {M : Type 1} → statement M
 read-through-spec =

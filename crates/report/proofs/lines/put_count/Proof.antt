@@ -7,7 +7,7 @@ use denote.Ref.{now}
 use Rattle.rdfs.specs.Numbers.{product}
 use Rattle.table.proofs.Filled.{filled-within}
 use Rattle.text.specs.Text.{Number}
-use Rattle.text.proofs.Put.{puts-start}
+use Rattle.text.proofs.PutText.{puts-start}
 use Rattle.report.proofs.lines.put_count.Statement.{statement}
 use Rattle.report.proofs.lines.put_count.Tie as tie
 

@@ -1,6 +1,6 @@
 -- `put_line`: three numbers, one after another. Assumes nothing.
 use borrow.Author.Needs.{needs}
-use Rattle.report.proofs.Put.{line-put}
+use Rattle.report.proofs.LinePut.{line-put}
 use Rattle.report.proofs.lines.put_line.Statement.{statement}
 use Rattle.report.proofs.lines.put_line.Tie as tie
 

@@ -19,11 +19,11 @@ use Rattle.report.proofs.lines.put_lines.Statement.{statement}
 use Rattle.report.proofs.lines.put_lines.Tie as tie
 
 abbrev Inv-loop : tie.InvT-loop
-Inv-loop table₀ bytes out₀ i₀ at₀ table out i at =
-    (i ≤ length bytes) × (length out ≡ length out₀) × PrintingFrom table₀ bytes i at table out
+Inv-loop table₀ bytes out₀ from₀ at₀ table out from at =
+    (from ≤ length bytes) × (length out ≡ length out₀) × PrintingFrom table₀ bytes from at table out
 
 abbrev μ-loop : tie.MeasureT-loop
-μ-loop table₀ bytes out₀ i₀ at₀ table out i at = length bytes - i
+μ-loop table₀ bytes out₀ from₀ at₀ table out from at = length bytes - from
 
 loop-holds : tie.Need-loop-holds Inv-loop μ-loop
 loop-holds c =

@@ -10,13 +10,13 @@ use Rattle.report.proofs.turns.run_tickets.Tie as tie
 slice-aggregate-put-lines : tie.Need-slice-aggregate-put-lines
 slice-aggregate-put-lines c =
     let start = c .before .before .before .before .before in
-    sym (length-take-le (start .args .n) (now (start .args .bytes)) (start .pre .1))
+    sym (length-take-le (start .args .count) (now (start .args .bytes)) (start .pre .1))
 
 put-lines-requires : tie.Need-put-lines-requires
 put-lines-requires c κs =
     let start = c .before .before .before .before .before .before in
-    let fit = lines-fit (now (start .args .bytes)) (now (start .args .out)) (start .args .n) (start .pre .1)
-    (start .pre .0 .room) in
+    let fit = lines-fit (now (start .args .bytes)) (now (start .args .out)) (start .args .count) (start .pre .1)
+    (start .pre .0 .sized .room) in
     (start .pre .0 .table, fit)
 
 slice-aggregate-write-output : tie.Need-slice-aggregate-write-output
@@ -43,7 +43,7 @@ returns : tie.Need-returns
 returns c =
     let put = c .before .before .before .before .before .before .before .before .before in
     let start = put .before .before .before .before .before .before .before in
-    shows-more (now (start .args .bytes)) (start .args .n) (put .put-lines .ensures) (search needs)
+    shows-more (now (start .args .bytes)) (start .args .count) (put .put-lines .ensures) (search needs)
 
 same-length-3 : tie.Need-same-length-3
 same-length-3 c = search needs
@@ -55,7 +55,7 @@ returns-2 : tie.Need-returns-2
 returns-2 c =
     let put = c .before .before .before .before .before .before .before .before .before in
     let start = put .before .before .before .before .before .before .before in
-    shows-last (now (start .args .bytes)) (start .args .n) (put .put-lines .ensures) (search needs)
+    shows-last (now (start .args .bytes)) (start .args .count) (put .put-lines .ensures) (search needs)
 
 same-length-5 : tie.Need-same-length-5
 same-length-5 c = search needs

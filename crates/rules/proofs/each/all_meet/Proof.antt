@@ -1,31 +1,28 @@
--- `each::all_meet` meets its contract. The loop's invariant: the words of kind k before `i` have ids as the rule asks, and those
--- left stand from `i` up to `end`. The measure is their number. Assumes nothing.
+-- `each::all_meet` meets its contract. The loop's invariant: the words of kind k before `at` have ids as the test asks, and those
+-- left stand from `at` up to `end`. The measure is their number. Assumes nothing.
 use Prim.Native.Nat.{ℕ, _-_}
 use mathlib.Core.List.{List}
 use native.Mathlib.Omega.{arith}
 use borrow.Author.Needs.{needs}
 use denote.Ref.{now}
-use Rattle.rdfs.specs.Rules.{Rule}
 use Rattle.table.specs.Parts.{firstOf, secondOf, thirdOf}
 use Rattle.spans.specs.Spans.{at}
-use Rattle.spans.specs.Graphs.{graphOf}
-use Rattle.spans.specs.Asked.{Asks}
-use Rattle.rules.specs.RuleOf.{ruleOf}
+use Rattle.rules.specs.declared.each.Test.{Test}
+use Rattle.rules.specs.TestAsks.{Asks}
 use Rattle.spans.proofs.Decided.{decided-met, decided-broken}
 use Rattle.spans.proofs.Passed.{Passed, passed-none, passed-more, passed-end}
-use Rattle.rules.proofs.Meeting.{asked-meets, meets-asked}
 use Rattle.rules.proofs.each.all_meet.Statement.{statement}
 use Rattle.rules.proofs.each.all_meet.Tie as tie
 
--- What the rule asks of the word at place i.
-abbrev Asked : List ℕ → Rule → ℕ → Type 0
-Asked t r i = let w = at t i in Asks (graphOf t) r (firstOf w) (secondOf w) (thirdOf w)
+-- What the test asks of the word at a place.
+abbrev Asked : List ℕ → Test → ℕ → Type 0
+Asked table test i = Asks table test (firstOf (at table i)) (secondOf (at table i)) (thirdOf (at table i))
 
 abbrev Inv-loop : tie.InvT-loop
-Inv-loop t s rule k i₀ end i = Passed t k (Asks (graphOf t) (ruleOf rule)) end i
+Inv-loop table index k test at₀ end at = Passed table k (Asks table test) end at
 
 abbrev μ-loop : tie.MeasureT-loop
-μ-loop t s rule k i₀ end i = end - i
+μ-loop table index k test at₀ end at = end - at
 
 word-of-requires : tie.Need-word-of-requires Inv-loop μ-loop
 word-of-requires c κs = search needs
@@ -46,11 +43,11 @@ loop-holds : tie.Need-loop-holds Inv-loop μ-loop
 loop-holds c = passed-none _ _ _ _ _ _ (c .before .before .before .word-of .ensures) (c .before .word-of2 .ensures)
     (c .before .before .place-of .ensures) (c .place-of2 .ensures)
 
-mul-w : tie.Need-mul-w Inv-loop μ-loop
-mul-w c = omega (arith, c .before .loop .inv .within)
+mul-word : tie.Need-mul-word Inv-loop μ-loop
+mul-word c = omega (arith, c .before .loop .inv .within)
 
-shared-slice-read-w : tie.Need-shared-slice-read-w Inv-loop μ-loop
-shared-slice-read-w c = omega (arith, c .before .before .loop .inv .within)
+shared-slice-read-word : tie.Need-shared-slice-read-word Inv-loop μ-loop
+shared-slice-read-word c = omega (arith, c .before .before .loop .inv .within)
 
 first-of-requires : tie.Need-first-of-requires Inv-loop μ-loop
 first-of-requires c κs = search needs
@@ -66,14 +63,14 @@ ids-meet-requires c κs =
     let at-before = c .before .before .before .before in
     let at-loop = at-before .before in
     let entry = at-loop .before .before .before .before .before .before .before in
-    let ids = entry .pre .0 .words .facts (at-loop .loop .i) (omega (arith, at-loop .loop .inv .within)) .allowed in (
-      entry .pre .0,
-      (
-        rw (c .before .before .first-of .ensures) (ids .first),
-        rw (c .before .second-of .ensures) (ids .second),
-        rw (c .third-of .ensures) (ids .third),
-      ),
-      entry .pre .4,
+    let ids = entry .pre .0 .words .facts (at-loop .loop .at) (omega (arith, at-loop .loop .inv .within)) .allowed in (
+      record {
+        indexed = entry .pre .0;
+        first = rw (c .before .before .first-of .ensures) (ids .first);
+        second = rw (c .before .second-of .ensures) (ids .second);
+        third = rw (c .third-of .ensures) (ids .third);
+      },
+      entry .pre .1 .1,
     )
 
 returns : tie.Need-returns Inv-loop μ-loop
@@ -82,20 +79,19 @@ returns c =
     let at-loop-test = at-first-of .before .before in
     let at-loop = at-loop-test .before in
     let entry = at-loop .before .before .before .before .before .before .before in
-    let words = now (entry .args .t) in
-    let rule = ruleOf (entry .args .rule) in
-    let i = at-loop .loop .i in
+    let words = now (entry .args .table) in
+    let i = at-loop .loop .at in
     let answer = rw (
       at-first-of .first-of .ensures,
       c .before .before .before .second-of .ensures,
       c .before .before .third-of .ensures,
     ) at (c .before .ids-meet .ensures) in
     let kind = at-loop .loop .inv .left i (omega arith) (at-loop-test .loop-test .taken) in
-    λ met. decided-broken (c .before .ids-meet .result) (Asked words rule i) answer (c .if1 .taken)
-    (meets-asked words rule _ (entry .pre .3) (entry .pre .0 .words) met i (omega (arith, at-loop .loop .inv .within)) kind)
+    λ met. decided-broken (c .before .ids-meet .result) (Asked words (entry .args .test) i) answer (c .if1 .taken)
+    (met i (omega (arith, at-loop .loop .inv .within)) kind)
 
-add-i : tie.Need-add-i Inv-loop μ-loop
-add-i c =
+add-at : tie.Need-add-at Inv-loop μ-loop
+add-at c =
     let at-before = c .before .before .before .before .before .before in
     let at-loop = at-before .before in
     omega (arith, at-loop .loop .inv .within)
@@ -109,7 +105,7 @@ loop-again c =
     let at-loop-test = at-first-of .before .before in
     let at-loop = at-loop-test .before in
     let entry = at-loop .before .before .before .before .before .before .before in
-    let asked = Asked (now (entry .args .t)) (ruleOf (entry .args .rule)) (at-loop .loop .i) in
+    let asked = Asked (now (entry .args .table)) (entry .args .test) (at-loop .loop .at) in
     let answer = rw (
       at-first-of .first-of .ensures,
       c .before .before .before .second-of .ensures,
@@ -119,10 +115,7 @@ loop-again c =
     answer (c .if1 .left))
 
 returns-2 : tie.Need-returns-2 Inv-loop μ-loop
-returns-2 c =
-    let entry = c .before .before .before .before .before .before .before .before in
-    asked-meets (now (entry .args .t)) (ruleOf (entry .args .rule)) _ (entry .pre .3) (entry .pre .1)
-    (passed-end _ _ _ _ (c .before .loop .inv) (c .loop-test .left))
+returns-2 c = passed-end _ _ _ _ (c .before .loop .inv) (c .loop-test .left)
 
 pub all-meet-spec : {M : Type 1} → statement M
 all-meet-spec =
@@ -136,14 +129,14 @@ all-meet-spec =
     word-of-requires-2
     place-of-requires-2
     loop-holds
-    mul-w
-    shared-slice-read-w
+    mul-word
+    shared-slice-read-word
     first-of-requires
     second-of-requires
     third-of-requires
     ids-meet-requires
     returns
-    add-i
+    add-at
     loop-less
     loop-again
     returns-2)

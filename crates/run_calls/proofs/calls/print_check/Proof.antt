@@ -16,7 +16,7 @@ first-broken-requires : tie.Need-first-broken-requires
 first-broken-requires c κs =
     let at-check = c .before .before in
     let entry = at-check .before .before in
-    refused-laid (now (entry .args .t)) (sym (c .if1 .taken) ∙ at-check .check .ensures)
+    refused-laid (now (entry .args .table)) (sym (c .if1 .taken) ∙ at-check .check .ensures)
 
 enum-known-visited : tie.Need-enum-known-visited
 enum-known-visited c = search needs

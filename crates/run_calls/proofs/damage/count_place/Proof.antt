@@ -7,11 +7,11 @@ use Rattle.run_calls.proofs.damage.count_place.Statement.{statement}
 use Rattle.run_calls.proofs.damage.count_place.Tie as tie
 
 abbrev Inv-loop : tie.InvT-loop
-Inv-loop image₀ place t₀ kept counts₀ old x₀ image t counts x =
-    (place < length image₀) × (length image ≡ length image₀) × (length t ≡ length t₀)
+Inv-loop image₀ place table₀ kept counts₀ old value₀ image table counts value =
+    (place < length image₀) × (length image ≡ length image₀) × (length table ≡ length table₀)
 
 abbrev μ-loop : tie.MeasureT-loop
-μ-loop image₀ place t₀ kept counts₀ old x₀ image t counts x = 256 - x
+μ-loop image₀ place table₀ kept counts₀ old value₀ image table counts value = 256 - value
 
 returns : tie.Need-returns Inv-loop μ-loop
 returns c = search needs
@@ -46,8 +46,8 @@ mul-counts c = search needs
 element-write-counts : tie.Need-element-write-counts Inv-loop μ-loop
 element-write-counts c = search needs
 
-add-x : tie.Need-add-x Inv-loop μ-loop
-add-x c = search needs
+add-value : tie.Need-add-value Inv-loop μ-loop
+add-value c = search needs
 
 loop-less : tie.Need-loop-less Inv-loop μ-loop
 loop-less c = search needs
@@ -84,7 +84,7 @@ count-place-spec =
     one-more-requires
     mul-counts
     element-write-counts
-    add-x
+    add-value
     loop-less
     loop-again
     slice-write-image-2

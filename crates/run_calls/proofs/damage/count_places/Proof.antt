@@ -7,10 +7,11 @@ use Rattle.run_calls.proofs.damage.count_places.Statement.{statement}
 use Rattle.run_calls.proofs.damage.count_places.Tie as tie
 
 abbrev Inv-loop : tie.InvT-loop
-Inv-loop image₀ t₀ kept counts₀ n place₀ image t counts place = (length image ≡ length image₀) × (length t ≡ length t₀)
+Inv-loop image₀ table₀ kept counts₀ end place₀ image table counts place =
+    (length image ≡ length image₀) × (length table ≡ length table₀)
 
 abbrev μ-loop : tie.MeasureT-loop
-μ-loop image₀ t₀ kept counts₀ n place₀ image t counts place = n - place
+μ-loop image₀ table₀ kept counts₀ end place₀ image table counts place = end - place
 
 loop-holds : tie.Need-loop-holds Inv-loop μ-loop
 loop-holds c = search needs

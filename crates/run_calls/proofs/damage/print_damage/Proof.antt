@@ -5,10 +5,10 @@ use Rattle.run_calls.proofs.damage.print_damage.Statement.{statement}
 use Rattle.run_calls.proofs.damage.print_damage.Tie as tie
 
 abbrev Inv-loop : tie.InvT-loop
-Inv-loop image t kept counts k₀ k = k ≤ 15
+Inv-loop image table kept counts outcome₀ outcome = outcome ≤ 15
 
 abbrev μ-loop : tie.MeasureT-loop
-μ-loop image t kept counts k₀ k = 15 - k
+μ-loop image table kept counts outcome₀ outcome = 15 - outcome
 
 count-places-requires : tie.Need-count-places-requires Inv-loop μ-loop
 count-places-requires c κs = search needs
@@ -25,8 +25,8 @@ array-read-print-number c = search needs
 print-number-requires : tie.Need-print-number-requires Inv-loop μ-loop
 print-number-requires c κs = search needs
 
-add-k : tie.Need-add-k Inv-loop μ-loop
-add-k c = search needs
+add-outcome : tie.Need-add-outcome Inv-loop μ-loop
+add-outcome c = search needs
 
 loop-less : tie.Need-loop-less Inv-loop μ-loop
 loop-less c = search needs
@@ -54,7 +54,7 @@ print-damage-spec =
     mul-print-number
     array-read-print-number
     print-number-requires
-    add-k
+    add-outcome
     loop-less
     loop-again
     same-length

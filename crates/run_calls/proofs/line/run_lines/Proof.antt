@@ -7,10 +7,10 @@ use Rattle.run_calls.proofs.line.run_lines.Statement.{statement}
 use Rattle.run_calls.proofs.line.run_lines.Tie as tie
 
 abbrev Inv-loop : tie.InvT-loop
-Inv-loop text words₀ kept₀ n₀ i₀ words kept n i = (length words ≡ length words₀) × (length kept ≡ length kept₀)
+Inv-loop text words₀ kept₀ count₀ from₀ words kept count from = (length words ≡ length words₀) × (length kept ≡ length kept₀)
 
 abbrev μ-loop : tie.MeasureT-loop
-μ-loop text words₀ kept₀ n₀ i₀ words kept n i = length text - i
+μ-loop text words₀ kept₀ count₀ from₀ words kept count from = length text - from
 
 loop-holds : tie.Need-loop-holds Inv-loop μ-loop
 loop-holds c = search needs
@@ -30,8 +30,8 @@ part-run-line-end c = search needs
 run-line-requires : tie.Need-run-line-requires Inv-loop μ-loop
 run-line-requires c κs = search needs
 
-add-i : tie.Need-add-i Inv-loop μ-loop
-add-i c = search needs
+add-from : tie.Need-add-from Inv-loop μ-loop
+add-from c = search needs
 
 loop-less : tie.Need-loop-less Inv-loop μ-loop
 loop-less c = search needs
@@ -60,7 +60,7 @@ run-lines-spec =
     part-run-line-start
     part-run-line-end
     run-line-requires
-    add-i
+    add-from
     loop-less
     loop-again
     same-length

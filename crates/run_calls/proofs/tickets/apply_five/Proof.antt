@@ -81,7 +81,8 @@ use denote.Array.{Array, array-vals, array-tells, array-typed, array-copy}
 use denote.Laws.{Is, shows}
 use denote.Lend.{lends-shr-slice}
 use denote.Memory.{lone, pointee}
-use denote.Builtin.{u8, u32}
+use Rattle.records.proofs.Relent.{Element}
+use denote.Builtin.{u8}
 use denote.Ref.{RefT}
 use denote.Slice.{sliceTy, sliceVal, MutSlice, ShrSlice, Room, finally, slice-vals, mut-slice-tells}
 use denote.Signature.{plain}
@@ -107,14 +108,14 @@ use denote.Triple.Walked.{
   walk-meets,
 }
 use denote.Exit.{yes}
-use Rattle.ticket_form.specs.declared.Ticket.{Ticket}
-use Rattle.list_form.specs.declared.Listed.{Listed}
+use Rattle.ticket_form.specs.declared.fields.Ticket.{Ticket}
+use Rattle.list_form.specs.declared.answers.Listed.{Listed}
 use Rattle.list_form.specs.Listing.{listing, ListAnswered, recordBytes}
 use Rattle.run_calls.proofs.Elements.{Elements, elements-in, elements-out}
-use Rattle.ticket_form.proofs.Ticket as T
-use Rattle.ticket_form.proofs.Ticket.Laws as T′
-use Rattle.list_form.proofs.Listed as S
-use Rattle.list_form.proofs.Listed.Laws as S′
+use Rattle.ticket_form.proofs.fields.Ticket as T
+use Rattle.ticket_form.proofs.fields.Ticket.Laws as T′
+use Rattle.list_form.proofs.answers.Listed as S
+use Rattle.list_form.proofs.answers.Listed.Laws as S′
 use Rattle.records.proofs.apply_records as list
 use Rattle.records.proofs.apply_records.Symbol as list-def
 use Rattle.records.proofs.apply_records.Symbol.{name as #apply-records}
@@ -134,7 +135,8 @@ abbrev τ : Ty
 τ = tyArray (lone (R .mir)) 5
 
 abbrev stayed : Stays (five.ended .signature .params) (five.ended .kept)
-stayed = (gave-slice (0 ∷ []) tt (plain (λ _. u32)), (stay-none (λ _. Five) yes, (gave-slice (1 ∷ []) tt (plain (λ _. u8)), tt)))
+stayed =
+    (gave-slice (0 ∷ []) tt (plain (λ _. Element)), (stay-none (λ _. Five) yes, (gave-slice (1 ∷ []) tt (plain (λ _. u8)), tt)))
 
 -- five tickets have room
 room-of : (ys : List Ticket) → length ys ≡ 5 → Room R (length ys)
@@ -176,7 +178,7 @@ module _ {M : Type 1} (𝓤 : URA M) (H : Heap 𝓤) (A : Atoms 𝓤) (W : Given
   Post = walkOf 𝓤 H A five.ended stayed (five.clauses 𝓤 H A mem run-of) .post bound
 
   abbrev Own₀ : Fml
-  Own₀ = MutSlice (named 0) κ₀ u32 .own tab (v₀ ∷ [])
+  Own₀ = MutSlice (named 0) κ₀ Element .own tab (v₀ ∷ [])
 
   abbrev Own₂ : Fml
   Own₂ = MutSlice (named 1) κ₁ u8 .own ans (v₂ ∷ [])
@@ -185,10 +187,10 @@ module _ {M : Type 1} (𝓤 : URA M) (H : Heap 𝓤) (A : Atoms 𝓤) (W : Given
   Said r t ws = ListAnswered r t ws (listing xs (recordBytes ys) zs)
 
   exits : (r : Listed) (u : Val) (t ws : List ℕ) → length t ≡ length xs → length ws ≡ length zs → Said r t ws
-      → ent 𝓤 (⋆ 𝓤 H A ((‵ (flft κ₀ q₀) ⊛ ‵ (flft κ₁ q₁) ⊛ ‵ ftrue) ∷ ‵ (finally u32 γ₀ t) ∷ ‵ (Five .own ys (v ∷ [])) ∷ ‵
+      → ent 𝓤 (⋆ 𝓤 H A ((‵ (flft κ₀ q₀) ⊛ ‵ (flft κ₁ q₁) ⊛ ‵ ftrue) ∷ ‵ (finally Element γ₀ t) ∷ ‵ (Five .own ys (v ∷ [])) ∷ ‵
       (finally u8 γ₂ ws) ∷ ‵ (S.the-row .own r (u ∷ [])) ∷ [])) (Post u)
   exits r u t ws e₀ e₂ d =
-      qed W ((‵ (flft κ₀ q₀) ⊛ ‵ (flft κ₁ q₁) ⊛ ‵ ftrue) ∷ ‵ (finally u32 γ₀ t) ∷ ‵ (Five .own ys (v ∷ [])) ∷ ‵
+      qed W ((‵ (flft κ₀ q₀) ⊛ ‵ (flft κ₁ q₁) ⊛ ‵ ftrue) ∷ ‵ (finally Element γ₀ t) ∷ ‵ (Five .own ys (v ∷ [])) ∷ ‵
       (finally u8 γ₂ ws) ∷ ‵ (S.the-row .own r (u ∷ [])) ∷ []) ∵
       suffices ! _ (ends-at 𝓤 H A five.ended stayed (five.clauses 𝓤 H A mem run-of) W bound u r (t, (tt, (ws, tt))) (
         e₀,
@@ -228,11 +230,11 @@ module _ {M : Type 1} (𝓤 : URA M) (H : Heap 𝓤) (A : Atoms 𝓤) (W : Given
       (1 ∷ 0 ∷ []) $ join ! $ frame ! $ done !
 
   module _ (C : Calls 𝓤 H) (Λ : Loops 𝓤 H) (fm : FmC 𝓤 H (W .laws) C) (known : Known 𝓤 H A mem run-of C) where
-    walk : Room u32 (length xs) → T (hasTy τ v) × WT v → length ys ≡ 5 → Room R (length ys) → Room u8 (length zs)
+    walk : Room Element (length xs) → T (hasTy τ v) × WT v → length ys ≡ 5 → Room R (length ys) → Room u8 (length zs)
         → ent 𝓤 (onEntry 𝓤 H A five.signature (κ₀, (κ₁, tt)) (q₀, (q₁, tt)) x vs) (WpFn 𝓤 H C Λ code.function (v₀ ∷ v ∷ v₂ ∷ [])
         Post)
     walk g₀ wt e g₁ g₂ =
-        qed W ((‵ (flft κ₀ q₀) ⊛ ‵ (flft κ₁ q₁) ⊛ ‵ ftrue) ∷ ‵ (owns (MutSlice (named 0) κ₀ u32 ∷ Five ∷ MutSlice (named 1) κ₁
+        qed W ((‵ (flft κ₀ q₀) ⊛ ‵ (flft κ₁ q₁) ⊛ ‵ ftrue) ∷ ‵ (owns (MutSlice (named 0) κ₀ Element ∷ Five ∷ MutSlice (named 1) κ₁
         u8 ∷ []) x vs) ∷ []) ∵ enter ! C Λ code.function (v₀ ∷ v ∷ v₂ ∷ []) _ $
         alloc1 ! (λ l₀. alloc1 ! (λ l₁. alloc1 !
         (λ l₂. alloc1 ! (λ l₃. alloc1 !
@@ -301,7 +303,7 @@ module _ {M : Type 1} (𝓤 : URA M) (H : Heap 𝓤) (A : Atoms 𝓤) (W : Given
   five-walks = walked 𝓤 H A five.ended stayed (five.clauses 𝓤 H A mem run-of) (WpFn 𝓤 H (𝓣 .C) (𝓣 .Λ) code.function)
       (λ κs. (slice-vals, (array-vals (LL.vals T.the-type T′.the-laws), (slice-vals, tt))))
       (λ κs. (
-        mut-slice-tells (named 0) (κs .0) u32,
+        mut-slice-tells (named 0) (κs .0) Element,
         (
           array-tells R (LL.vals T.the-type T′.the-laws) (LL.tells T.the-type T′.the-laws) 5,
           (mut-slice-tells (named 1) (κs .1 .0) u8, tt),
@@ -316,7 +318,7 @@ module _ {M : Type 1} (𝓤 : URA M) (H : Heap 𝓤) (A : Atoms 𝓤) (W : Given
 
   five-meets : Meets 𝓤 H A five.signature (WpFn 𝓤 H (𝓣 .C) (𝓣 .Λ) code.function) (five.spec 𝓤 H A mem run-of)
   five-meets = walk-meets 𝓤 H A five.ended stayed W (
-    goes-gave-slice 𝓤 H A W 2 0 tt (plain (λ _. u32)),
+    goes-gave-slice 𝓤 H A W 2 0 tt (plain (λ _. Element)),
     (goes-none 𝓤 H A W 2 (λ _. Five) yes (λ κs x f. refl), (goes-gave-slice 𝓤 H A W 2 1 tt (plain (λ _. u8)), tt)),
   )
       (five.clauses 𝓤 H A mem run-of) (WpFn 𝓤 H (𝓣 .C) (𝓣 .Λ) code.function) (WpFn-mono 𝓤 H (W .laws) 𝓣 code.function) five-walks

@@ -7,10 +7,10 @@ use Rattle.script.proofs.compare.is_same.Statement.{statement}
 use Rattle.script.proofs.compare.is_same.Tie as tie
 
 abbrev Inv-loop : tie.InvT-loop
-Inv-loop a b i₀ i = (i ≤ length a) × (length a ≡ length b)
+Inv-loop bytes other place₀ place = (place ≤ length bytes) × (length bytes ≡ length other)
 
 abbrev μ-loop : tie.MeasureT-loop
-μ-loop a b i₀ i = length a - i
+μ-loop bytes other place₀ place = length bytes - place
 
 returns : tie.Need-returns Inv-loop μ-loop
 returns c = search needs
@@ -27,8 +27,8 @@ shared-slice-read-if2-2 c = search needs
 returns-2 : tie.Need-returns-2 Inv-loop μ-loop
 returns-2 c = search needs
 
-add-i : tie.Need-add-i Inv-loop μ-loop
-add-i c = search needs
+add-place : tie.Need-add-place Inv-loop μ-loop
+add-place c = search needs
 
 loop-less : tie.Need-loop-less Inv-loop μ-loop
 loop-less c = search needs
@@ -50,7 +50,7 @@ is-same-spec =
     shared-slice-read-if2
     shared-slice-read-if2-2
     returns-2
-    add-i
+    add-place
     loop-less
     loop-again
     returns-3)

@@ -6,10 +6,10 @@ use Rattle.script.proofs.compare.is_start_of.Statement.{statement}
 use Rattle.script.proofs.compare.is_start_of.Tie as tie
 
 abbrev Inv-loop : tie.InvT-loop
-Inv-loop t other i₀ i = (i ≤ length t) × (length t ≤ length other)
+Inv-loop table other place₀ place = (place ≤ length table) × (length table ≤ length other)
 
 abbrev μ-loop : tie.MeasureT-loop
-μ-loop t other i₀ i = length t - i
+μ-loop table other place₀ place = length table - place
 
 returns : tie.Need-returns Inv-loop μ-loop
 returns c = search needs
@@ -32,8 +32,8 @@ shared-slice-read-if2-2 c = search needs
 returns-2 : tie.Need-returns-2 Inv-loop μ-loop
 returns-2 c = search needs
 
-add-i : tie.Need-add-i Inv-loop μ-loop
-add-i c = search needs
+add-place : tie.Need-add-place Inv-loop μ-loop
+add-place c = search needs
 
 loop-less : tie.Need-loop-less Inv-loop μ-loop
 loop-less c = search needs
@@ -57,7 +57,7 @@ is-start-of-spec =
     mul-if2-2
     shared-slice-read-if2-2
     returns-2
-    add-i
+    add-place
     loop-less
     loop-again
     returns-3)

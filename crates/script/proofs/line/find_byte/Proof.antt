@@ -6,10 +6,10 @@ use Rattle.script.proofs.line.find_byte.Statement.{statement}
 use Rattle.script.proofs.line.find_byte.Tie as tie
 
 abbrev Inv-loop : tie.InvT-loop
-Inv-loop text i x e₀ e = (i ≤ e) × (e ≤ length text)
+Inv-loop text from byte end₀ end = (from ≤ end) × (end ≤ length text)
 
 abbrev μ-loop : tie.MeasureT-loop
-μ-loop text i x e₀ e = length text - e
+μ-loop text from byte end₀ end = length text - end
 
 loop-holds : tie.Need-loop-holds Inv-loop μ-loop
 loop-holds c = search needs
@@ -20,8 +20,8 @@ shared-slice-read-if1 c = search needs
 returns : tie.Need-returns Inv-loop μ-loop
 returns c = search needs
 
-add-e : tie.Need-add-e Inv-loop μ-loop
-add-e c = search needs
+add-end : tie.Need-add-end Inv-loop μ-loop
+add-end c = search needs
 
 loop-less : tie.Need-loop-less Inv-loop μ-loop
 loop-less c = search needs
@@ -41,7 +41,7 @@ find-byte-spec =
     loop-holds
     shared-slice-read-if1
     returns
-    add-e
+    add-end
     loop-less
     loop-again
     returns-2)

@@ -6,10 +6,10 @@ use Rattle.script.proofs.line.find_name.Statement.{statement}
 use Rattle.script.proofs.line.find_name.Tie as tie
 
 abbrev Inv-loop : tie.InvT-loop
-Inv-loop names name i₀ k₀ i k = k ≤ i
+Inv-loop names name from₀ count₀ from count = count ≤ from
 
 abbrev μ-loop : tie.MeasureT-loop
-μ-loop names name i₀ k₀ i k = length names - i
+μ-loop names name from₀ count₀ from count = length names - from
 
 loop-holds : tie.Need-loop-holds Inv-loop μ-loop
 loop-holds c = search needs
@@ -32,11 +32,11 @@ is-same-requires c κs = search needs
 returns : tie.Need-returns Inv-loop μ-loop
 returns c = search needs
 
-add-k : tie.Need-add-k Inv-loop μ-loop
-add-k c = search needs
+add-count : tie.Need-add-count Inv-loop μ-loop
+add-count c = search needs
 
-add-i : tie.Need-add-i Inv-loop μ-loop
-add-i c = search needs
+add-from : tie.Need-add-from Inv-loop μ-loop
+add-from c = search needs
 
 loop-less : tie.Need-loop-less Inv-loop μ-loop
 loop-less c = search needs
@@ -60,8 +60,8 @@ find-name-spec =
     part-is-same-end
     is-same-requires
     returns
-    add-k
-    add-i
+    add-count
+    add-from
     loop-less
     loop-again
     returns-2)

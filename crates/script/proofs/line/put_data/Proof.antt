@@ -9,10 +9,10 @@ use Rattle.script.proofs.line.put_data.Statement.{statement}
 use Rattle.script.proofs.line.put_data.Tie as tie
 
 abbrev Inv-loop : tie.InvT-loop
-Inv-loop text out₀ i₀ n₀ out i n = (i ≤ length text) × (n ≤ length out₀) × (length out ≡ length out₀)
+Inv-loop text out₀ place₀ count₀ out place count = (place ≤ length text) × (count ≤ length out₀) × (length out ≡ length out₀)
 
 abbrev μ-loop : tie.MeasureT-loop
-μ-loop text out₀ i₀ n₀ out i n = length text - i
+μ-loop text out₀ place₀ count₀ out place count = length text - place
 
 loop-holds : tie.Need-loop-holds Inv-loop μ-loop
 loop-holds c = search needs
@@ -29,8 +29,8 @@ returns c = (omega arith, sym (length-take-le _ _ (omega arith)))
 shared-slice-read-if2 : tie.Need-shared-slice-read-if2 Inv-loop μ-loop
 shared-slice-read-if2 c = search needs
 
-add-i : tie.Need-add-i Inv-loop μ-loop
-add-i c = search needs
+add-place : tie.Need-add-place Inv-loop μ-loop
+add-place c = search needs
 
 loop-less : tie.Need-loop-less Inv-loop μ-loop
 loop-less c = search needs
@@ -44,11 +44,11 @@ byte-at-requires c κs = search needs
 slice-write-out : tie.Need-slice-write-out Inv-loop μ-loop
 slice-write-out c = search needs
 
-add-n : tie.Need-add-n Inv-loop μ-loop
-add-n c = search needs
+add-count : tie.Need-add-count Inv-loop μ-loop
+add-count c = search needs
 
-add-i-2 : tie.Need-add-i-2 Inv-loop μ-loop
-add-i-2 c = search needs
+add-place-2 : tie.Need-add-place-2 Inv-loop μ-loop
+add-place-2 c = search needs
 
 loop-less-2 : tie.Need-loop-less-2 Inv-loop μ-loop
 loop-less-2 c = search needs
@@ -73,13 +73,13 @@ put-data-spec =
     same-length
     returns
     shared-slice-read-if2
-    add-i
+    add-place
     loop-less
     loop-again
     byte-at-requires
     slice-write-out
-    add-n
-    add-i-2
+    add-count
+    add-place-2
     loop-less-2
     loop-again-2
     same-length-2

@@ -7,25 +7,25 @@ use Rattle.script.proofs.put.put_words.Statement.{statement}
 use Rattle.script.proofs.put.put_words.Tie as tie
 
 abbrev Inv-loop : tie.InvT-loop
-Inv-loop t₀ given i₀ w₀ t i w = (i ≤ length t₀) × (length t ≡ length t₀)
+Inv-loop table₀ given place₀ word₀ table place word = (place ≤ length table₀) × (length table ≡ length table₀)
 
 abbrev μ-loop : tie.MeasureT-loop
-μ-loop t₀ given i₀ w₀ t i w = length t₀ - i
+μ-loop table₀ given place₀ word₀ table place word = length table₀ - place
 
 loop-holds : tie.Need-loop-holds Inv-loop μ-loop
 loop-holds c = search needs
 
-word-at-requires : tie.Need-word-at-requires Inv-loop μ-loop
-word-at-requires c κs = search needs
+word-in-requires : tie.Need-word-in-requires Inv-loop μ-loop
+word-in-requires c κs = search needs
 
-mul-t : tie.Need-mul-t Inv-loop μ-loop
-mul-t c = search needs
+mul-table : tie.Need-mul-table Inv-loop μ-loop
+mul-table c = search needs
 
-slice-write-t : tie.Need-slice-write-t Inv-loop μ-loop
-slice-write-t c = search needs
+slice-write-table : tie.Need-slice-write-table Inv-loop μ-loop
+slice-write-table c = search needs
 
-add-i : tie.Need-add-i Inv-loop μ-loop
-add-i c = search needs
+add-place : tie.Need-add-place Inv-loop μ-loop
+add-place c = search needs
 
 loop-less : tie.Need-loop-less Inv-loop μ-loop
 loop-less c = search needs
@@ -46,10 +46,10 @@ put-words-spec =
     Inv-loop
     μ-loop
     loop-holds
-    word-at-requires
-    mul-t
-    slice-write-t
-    add-i
+    word-in-requires
+    mul-table
+    slice-write-table
+    add-place
     loop-less
     loop-again
     same-length

@@ -6,13 +6,13 @@ use Rattle.script.proofs.report.print_words.Statement.{statement}
 use Rattle.script.proofs.report.print_words.Tie as tie
 
 abbrev Inv-loop : tie.InvT-loop
-Inv-loop t n i₀ i = (i ≤ n) × (n ≤ length t)
+Inv-loop table count place₀ place = (place ≤ count) × (count ≤ length table)
 
 abbrev μ-loop : tie.MeasureT-loop
-μ-loop t n i₀ i = n - i
+μ-loop table count place₀ place = count - place
 
-count-words-requires : tie.Need-count-words-requires Inv-loop μ-loop
-count-words-requires c κs = search needs
+count-used-requires : tie.Need-count-used-requires Inv-loop μ-loop
+count-used-requires c κs = search needs
 
 loop-holds : tie.Need-loop-holds Inv-loop μ-loop
 loop-holds c = search needs
@@ -26,8 +26,8 @@ shared-slice-read-print-word c = search needs
 print-word-requires : tie.Need-print-word-requires Inv-loop μ-loop
 print-word-requires c κs = search needs
 
-add-i : tie.Need-add-i Inv-loop μ-loop
-add-i c = search needs
+add-place : tie.Need-add-place Inv-loop μ-loop
+add-place c = search needs
 
 loop-less : tie.Need-loop-less Inv-loop μ-loop
 loop-less c = search needs
@@ -44,12 +44,12 @@ print-words-spec =
     (tie.spec
     Inv-loop
     μ-loop
-    count-words-requires
+    count-used-requires
     loop-holds
     mul-print-word
     shared-slice-read-print-word
     print-word-requires
-    add-i
+    add-place
     loop-less
     loop-again
     returns)

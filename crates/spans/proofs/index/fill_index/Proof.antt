@@ -1,4 +1,4 @@
--- `index::fill_index` meets its contract. The loop's invariant: the words from `i` on are entered. The measure is `i`. Assumes
+-- `index::fill_index` meets its contract. The loop's invariant: the words from `at` on are entered. The measure is `at`. Assumes
 -- nothing.
 use mathlib.Core.Path.{subst}
 use native.Mathlib.Omega.{arith}
@@ -8,16 +8,16 @@ use Rattle.spans.proofs.index.fill_index.Statement.{statement}
 use Rattle.spans.proofs.index.fill_index.Tie as tie
 
 abbrev Inv-loop : tie.InvT-loop
-Inv-loop t s₀ i₀ s i = Entered t s i
+Inv-loop table index₀ at₀ index at = Entered table index at
 
 abbrev μ-loop : tie.MeasureT-loop
-μ-loop t s₀ i₀ s i = i
+μ-loop table index₀ at₀ index at = at
 
 loop-holds : tie.Need-loop-holds Inv-loop μ-loop
-loop-holds c = let entry = c .before .before in entered-none _ _ (entry .pre .2) (entry .pre .3)
+loop-holds c = let entry = c .before .before in entered-none _ _ (entry .pre .spans) (entry .pre .zeros)
 
-sub-i : tie.Need-sub-i Inv-loop μ-loop
-sub-i c = omega arith
+sub-at : tie.Need-sub-at Inv-loop μ-loop
+sub-at c = omega arith
 
 mul-span-of : tie.Need-mul-span-of Inv-loop μ-loop
 mul-span-of c = omega arith
@@ -28,16 +28,16 @@ shared-slice-read-span-of c = omega arith
 span-of-requires : tie.Need-span-of-requires Inv-loop μ-loop
 span-of-requires c κs = search needs
 
-cast-s : tie.Need-cast-s Inv-loop μ-loop
-cast-s c = omega arith
+cast-index : tie.Need-cast-index Inv-loop μ-loop
+cast-index c = omega arith
 
-slice-write-s : tie.Need-slice-write-s Inv-loop μ-loop
-slice-write-s c =
+slice-write-index : tie.Need-slice-write-index Inv-loop μ-loop
+slice-write-index c =
     let entry = c .before .before .before .before .before .before in
-    rw (c .span-of .ensures) (entry-within (entry .pre .0) _ (omega arith) (c .before .before .before .loop .inv))
+    rw (c .span-of .ensures) (entry-within (entry .pre .words) _ (omega arith) (c .before .before .before .loop .inv))
 
-mul-s : tie.Need-mul-s Inv-loop μ-loop
-mul-s c = omega (arith, slice-write-s c)
+mul-index : tie.Need-mul-index Inv-loop μ-loop
+mul-index c = omega (arith, slice-write-index c)
 
 loop-less : tie.Need-loop-less Inv-loop μ-loop
 loop-less c = omega arith
@@ -45,7 +45,7 @@ loop-less c = omega arith
 loop-again : tie.Need-loop-again Inv-loop μ-loop
 loop-again c =
     let entry = c .before .before .before .before .before .before in
-    rw (c .span-of .ensures) (entered-more (entry .pre .0) _ (omega arith) (c .before .before .before .loop .inv))
+    rw (c .span-of .ensures) (entered-more (entry .pre .words) _ (omega arith) (c .before .before .before .loop .inv))
 
 same-length : tie.Need-same-length Inv-loop μ-loop
 same-length c = omega (arith, c .before .loop .inv .spans)
@@ -53,7 +53,7 @@ same-length c = omega (arith, c .before .loop .inv .spans)
 returns : tie.Need-returns Inv-loop μ-loop
 returns c =
     let entry = c .before .before .before .before in
-    entered-all (entry .pre .0) (subst (Entered _ _) (omega arith) (c .before .loop .inv))
+    entered-all (entry .pre .words) (subst (Entered _ _) (omega arith) (c .before .loop .inv))
 
 pub fill-index-spec : {M : Type 1} → statement M
 fill-index-spec =
@@ -62,13 +62,13 @@ fill-index-spec =
     Inv-loop
     μ-loop
     loop-holds
-    sub-i
+    sub-at
     mul-span-of
     shared-slice-read-span-of
     span-of-requires
-    cast-s
-    mul-s
-    slice-write-s
+    cast-index
+    mul-index
+    slice-write-index
     loop-less
     loop-again
     same-length

@@ -1,7 +1,7 @@
--- `merge::group_start` meets its contract: the word at i goes on with the group of the word before, or begins one. Assumes
--- nothing.
+-- `merge::group_start` meets its contract: the word at the place goes on with the group of the word before, or begins one.
+-- Assumes nothing.
 use borrow.Author.Needs.{needs}
-use Rattle.spans.proofs.Groups.{group-goes-on, group-begins}
+use Rattle.spans.proofs.GroupStarts.{group-goes-on, group-begins}
 use Rattle.spans.proofs.merge.group_start.Statement.{statement}
 use Rattle.spans.proofs.merge.group_start.Tie as tie
 
@@ -20,12 +20,12 @@ shared-slice-read-if1-2 c = search needs
 returns : tie.Need-returns
 returns c =
     let entry = c .before .before .before in
-    group-goes-on (entry .pre .0) _ _ (entry .pre .1) (entry .pre .2) (entry .pre .3) (entry .pre .4) (c .if1 .taken)
+    group-goes-on _ _ (entry .pre) (c .if1 .taken)
 
 returns-2 : tie.Need-returns-2
 returns-2 c =
     let entry = c .before .before .before in
-    group-begins (entry .pre .0) _ _ (entry .pre .1) (entry .pre .2) (entry .pre .3) (entry .pre .4) (c .if1 .left)
+    group-begins _ _ (entry .pre) (c .if1 .left)
 
 pub group-start-spec : {M : Type 1} → statement M
 group-start-spec =

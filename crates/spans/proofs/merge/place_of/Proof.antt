@@ -1,27 +1,25 @@
--- `merge::place_of` meets its contract. The loop's invariant: the words before `lo` are below w, those from `hi` on are not. The
--- measure is the number of places between. Assumes nothing.
-use Prim.Native.Nat.{ℕ, _-_, _≤_, _<_}
+-- `merge::place_of` meets its contract. The loop's invariant: the words before `from` are below the word, those from `to` on are
+-- not. The measure is the number of places between. Assumes nothing.
+use Prim.Native.Nat.{_-_}
 use native.Mathlib.Omega.{arith}
-use lib.ListN.{length}
-use Rattle.spans.specs.Spans.{at, Before}
-use Rattle.spans.proofs.Places.{before-up, after-down}
+use Rattle.spans.proofs.SpanPlaces.{Enclosed, enclosed-start, enclosed-up, enclosed-down, enclosed-done}
 use Rattle.spans.proofs.merge.place_of.Statement.{statement}
 use Rattle.spans.proofs.merge.place_of.Tie as tie
 
 abbrev Inv-loop : tie.InvT-loop
-Inv-loop t w lo₀ hi₀ lo hi = (lo ≤ hi) × (hi ≤ length t) × Before t lo w × ((k : ℕ) → hi ≤ k → k < length t → w ≤ at t k)
+Inv-loop table word from₀ to₀ from to = Enclosed table word from to
 
 abbrev μ-loop : tie.MeasureT-loop
-μ-loop t w lo₀ hi₀ lo hi = hi - lo
+μ-loop table word from₀ to₀ from to = to - from
 
 loop-holds : tie.Need-loop-holds Inv-loop μ-loop
-loop-holds c = (omega arith, omega arith, (λ k l. absurd (omega (arith, l))), λ k l m. absurd (omega (arith, l, m)))
+loop-holds c = enclosed-start _ _
 
-sub-mid : tie.Need-sub-mid Inv-loop μ-loop
-sub-mid c = omega arith
+sub-middle : tie.Need-sub-middle Inv-loop μ-loop
+sub-middle c = omega arith
 
-add-mid : tie.Need-add-mid Inv-loop μ-loop
-add-mid c = omega arith
+add-middle : tie.Need-add-middle Inv-loop μ-loop
+add-middle c = omega arith
 
 mul-if1 : tie.Need-mul-if1 Inv-loop μ-loop
 mul-if1 c = omega arith
@@ -29,8 +27,8 @@ mul-if1 c = omega arith
 shared-slice-read-if1 : tie.Need-shared-slice-read-if1 Inv-loop μ-loop
 shared-slice-read-if1 c = omega arith
 
-add-lo : tie.Need-add-lo Inv-loop μ-loop
-add-lo c = omega arith
+add-from : tie.Need-add-from Inv-loop μ-loop
+add-from c = omega arith
 
 loop-less : tie.Need-loop-less Inv-loop μ-loop
 loop-less c = omega arith
@@ -38,7 +36,7 @@ loop-less c = omega arith
 loop-again : tie.Need-loop-again Inv-loop μ-loop
 loop-again c =
     let at-loop = c .before .before .before in
-    (omega arith, omega arith, before-up (at-loop .before .pre) _ _ (omega arith) (c .if1 .taken), at-loop .loop .inv .3)
+    enclosed-up (at-loop .before .pre) (at-loop .loop .inv) _ (omega arith) (c .if1 .taken)
 
 loop-less-2 : tie.Need-loop-less-2 Inv-loop μ-loop
 loop-less-2 c = omega arith
@@ -46,17 +44,10 @@ loop-less-2 c = omega arith
 loop-again-2 : tie.Need-loop-again-2 Inv-loop μ-loop
 loop-again-2 c =
     let at-loop = c .before .before .before in
-    (omega arith, omega arith, at-loop .loop .inv .2, after-down (at-loop .before .pre) _ _ (c .if1 .left))
+    enclosed-down (at-loop .before .pre) (at-loop .loop .inv) _ (omega arith) (omega arith) (c .if1 .left)
 
 returns : tie.Need-returns Inv-loop μ-loop
-returns c =
-    let at-loop = c .before in
-    record {
-      within = omega arith;
-      before = at-loop .loop .inv .2;
-      after =
-          λ k l m. at-loop .loop .inv .3 k (omega (arith, l, c .loop-test .left)) m;
-    }
+returns c = enclosed-done (c .before .loop .inv) (c .loop-test .left)
 
 pub place-of-spec : {M : Type 1} → statement M
 place-of-spec =
@@ -65,11 +56,11 @@ place-of-spec =
     Inv-loop
     μ-loop
     loop-holds
-    sub-mid
-    add-mid
+    sub-middle
+    add-middle
     mul-if1
     shared-slice-read-if1
-    add-lo
+    add-from
     loop-less
     loop-again
     loop-less-2

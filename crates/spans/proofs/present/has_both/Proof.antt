@@ -1,6 +1,6 @@
 -- `present::has_both` meets its contract. Assumes nothing.
 use borrow.Author.Needs.{needs}
-use Rattle.table.proofs.Answers.{decides-true, decides-false}
+use Rattle.table.proofs.TestAnswers.{decides-true, decides-false}
 use Rattle.spans.proofs.Decided.{decides-as}
 use Rattle.spans.proofs.present.has_both.Statement.{statement}
 use Rattle.spans.proofs.present.has_both.Tie as tie

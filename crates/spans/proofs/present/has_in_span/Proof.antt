@@ -18,8 +18,12 @@ returns : tie.Need-returns
 returns c =
     let entry = c .before .before .before .before in
     decides-as (c .is-among .result) _ _
-    (λ h. ((entry .pre .2 .0, entry .pre .2 .1, omega arith), subst (Has (now (entry .args .t))) (c .before .word-of .ensures) h))
-    (λ h. subst (Has (now (entry .args .t))) (sym (c .before .word-of .ensures)) (h .1))
+    (λ h. (
+      (entry .pre .0 .first, entry .pre .0 .second, omega arith),
+      subst (Has (now (entry .args .table)))
+          (c .before .word-of .ensures) h,
+    ))
+    (λ h. subst (Has (now (entry .args .table))) (sym (c .before .word-of .ensures)) (h .1))
     (c .is-among .ensures)
 
 pub has-in-span-spec : {M : Type 1} → statement M

@@ -24,8 +24,8 @@ returns : tie.Need-returns
 returns c =
     let at-span-at = c .before .before .before in
     let entry = at-span-at .before .before .before in
-    let place = c .before .before .number-at .ensures ∙ ap (at (now (entry .args .s))) (at-span-at .span-at .ensures) in
-    least-decides (entry .pre .0) _ _ _ _ (entry .pre .2) place (c .before .word-of .ensures) (c .is-at .result)
+    let place = c .before .before .number-at .ensures ∙ ap (at (now (entry .args .index))) (at-span-at .span-at .ensures) in
+    least-decides (entry .pre .0 .indexed) _ _ _ _ (entry .pre .0 .first) place (c .before .word-of .ensures) (c .is-at .result)
     (c .is-at .ensures)
 
 pub has-least-spec : {M : Type 1} → statement M

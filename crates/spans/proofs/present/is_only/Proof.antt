@@ -28,7 +28,7 @@ returns c =
     let entry = at-span-at .before .before .before in
     let start = rw (at-span-at .span-at .ensures) at (at-find-span .find-span .ensures) in
     λ f. c .if2 .taken (c .before .second-of .ensures
-    ∙ sym (f _ (span-stands (entry .pre .0 .words) _ _ (entry .pre .2) (entry .pre .3 .0) _
+    ∙ sym (f _ (span-stands (entry .pre .0 .indexed .words) _ _ (entry .pre .1) (entry .pre .0 .first) _
     (c .before .before .before .if1 .taken) (start .here (c .before .before .before .if1 .taken)))))
 
 add-if3 : tie.Need-add-if3
@@ -55,11 +55,12 @@ returns-2 c =
     let at-span-at = at-find-span .before in
     let entry = at-span-at .before .before .before in
     let start = rw (at-span-at .span-at .ensures) at (at-find-span .find-span .ensures) in
-    let words = entry .pre .0 .words in
+    let words = entry .pre .0 .indexed .words in
     let same = sym (c .before .span-of .ensures) ∙ c .if4 .taken ∙ at-span-at .span-at .ensures in
-    λ f. span-differ words _ _ (entry .pre .2) (entry .pre .3 .0) _ _ (omega arith) (c .before .before .before .if3 .taken)
+    λ f. span-differ words _ _ (entry .pre .1) (entry .pre .0 .first) _ _ (omega arith) (c .before .before .before .if3 .taken)
     (start .here (at-if1 .if1 .taken)) same
-    (sym (at-second-of .second-of .ensures) ∙ at-if2 .if2 .left ∙ f _ (span-stands words _ _ (entry .pre .2) (entry .pre .3 .0) _
+    (sym (at-second-of .second-of .ensures) ∙ at-if2 .if2 .left
+    ∙ f _ (span-stands words _ _ (entry .pre .1) (entry .pre .0 .first) _
     (c .before .before .before .if3 .taken) same))
 
 returns-3 : tie.Need-returns-3
@@ -70,8 +71,10 @@ returns-3 c =
     let at-span-at = at-find-span .before in
     let entry = at-span-at .before .before .before in
     let start = rw (at-span-at .span-at .ensures) at (at-find-span .find-span .ensures) in
-    λ z h. sym (at-if2 .if2 .left) ∙ at-second-of .second-of .ensures ∙ only-one (entry .pre .0 .words) _ _ (entry .pre .2)
-    (entry .pre .3 .0) _ start (λ l e. c .if4 .left (c .before .span-of .ensures ∙ e ∙ sym (at-span-at .span-at .ensures))) z h
+    λ z h. sym (at-if2 .if2 .left) ∙ at-second-of .second-of .ensures ∙ only-one (entry .pre .0 .indexed .words) _ _
+    (entry .pre .1)
+    (entry .pre .0 .first) _ start (λ l e. c .if4 .left (c .before .span-of .ensures ∙ e ∙ sym (at-span-at .span-at .ensures))) z
+    h
 
 returns-4 : tie.Need-returns-4
 returns-4 c =
@@ -80,14 +83,15 @@ returns-4 c =
     let at-span-at = at-find-span .before in
     let entry = at-span-at .before .before .before in
     let start = rw (at-span-at .span-at .ensures) at (at-find-span .find-span .ensures) in
-    λ z h. sym (c .before .if2 .left) ∙ c .before .before .second-of .ensures ∙ only-one (entry .pre .0 .words) _ _
-    (entry .pre .2) (entry .pre .3 .0) _ start (λ l e. omega (arith, c .if3 .left)) z h
+    λ z h. sym (c .before .if2 .left) ∙ c .before .before .second-of .ensures ∙ only-one (entry .pre .0 .indexed .words) _ _
+    (entry .pre .1) (entry .pre .0 .first) _ start (λ l e. omega (arith, c .if3 .left)) z h
 
 returns-5 : tie.Need-returns-5
 returns-5 c =
     let entry = c .before .before .before .before .before in
     let start = rw (c .before .before .span-at .ensures) at (c .before .find-span .ensures) in
-    λ z h. absurd (stands-none (entry .pre .0 .words) _ _ (entry .pre .2) (entry .pre .3 .0) _ start (c .if1 .left) z h)
+    λ z h. absurd (stands-none (entry .pre .0 .indexed .words) _ _ (entry .pre .1) (entry .pre .0 .first) _ start (c .if1 .left) z
+    h)
 
 pub is-only-spec : {M : Type 1} → statement M
 is-only-spec =

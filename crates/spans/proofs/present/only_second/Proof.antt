@@ -24,14 +24,15 @@ returns c =
     let at-span-at = c .before .before .before .before in
     let entry = at-span-at .before .before .before in
     let start = rw (at-span-at .span-at .ensures) at (c .before .before .before .find-span .ensures) in
-    rw (c .second-of .ensures) (only-here (entry .pre .0 .words) _ _ (entry .pre .2) (entry .pre .3) _ start (entry .pre .4)
+    rw (c .second-of .ensures) (only-here (entry .pre .0 .indexed .words) _ _ (entry .pre .1 .0) (entry .pre .0 .first) _ start
+    (entry .pre .1 .1)
     (c .before .before .if1 .taken))
 
 returns-2 : tie.Need-returns-2
 returns-2 c =
     let entry = c .before .before .before .before .before in
     let start = rw (c .before .before .span-at .ensures) at (c .before .find-span .ensures) in
-    only-none (entry .pre .0 .words) _ _ (entry .pre .2) (entry .pre .3) _ start (c .if1 .left)
+    only-none (entry .pre .0 .indexed .words) _ _ (entry .pre .1 .0) (entry .pre .0 .first) _ start (c .if1 .left)
 
 pub only-second-spec : {M : Type 1} → statement M
 only-second-spec =

@@ -1,6 +1,6 @@
 -- `schema::has_domain_and_range` meets its contract. Assumes nothing.
 use borrow.Author.Needs.{needs}
-use Rattle.table.proofs.Answers.{decides-true, decides-false}
+use Rattle.table.proofs.TestAnswers.{decides-true, decides-false}
 use Rattle.spans.proofs.Decided.{decides-as}
 use Rattle.spans.proofs.schema.has_domain_and_range.Statement.{statement}
 use Rattle.spans.proofs.schema.has_domain_and_range.Tie as tie

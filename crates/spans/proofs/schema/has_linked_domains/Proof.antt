@@ -25,7 +25,7 @@ returns c =
     let za = at-only-second .only-second .ensures in
     let zb = at-only-second2 .only-second2 .ensures in
     decides-as (c .has-in-span .result) _ _
-    (λ h z w p q n. only-both za zb (λ x y. Stands (now (entry .args .t)) 5 x y 0) h z w p q)
+    (λ h z w p q n. only-both za zb (λ x y. Stands (now (entry .args .table)) 5 x y 0) h z w p q)
     (λ f. f _ _ (za .some (c .before .before .before .if1 .taken)) (zb .some (c .before .before .if2 .taken))
     (c .before .if3 .taken))
     (c .has-in-span .ensures)

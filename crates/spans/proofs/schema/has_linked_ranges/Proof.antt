@@ -27,7 +27,7 @@ returns c =
     let za = at-only-second .only-second .ensures in
     let zb = at-only-second2 .only-second2 .ensures in
     decides-as (c .has-in-span .result) _ _
-    (λ h z w p q n m o. only-both za zb (λ x y. Stands (now (entry .args .t)) 5 x y 0) h z w p q)
+    (λ h z w p q n m o. only-both za zb (λ x y. Stands (now (entry .args .table)) 5 x y 0) h z w p q)
     (λ f. f _ _ (za .some (at-if1 .if1 .taken)) (zb .some (at-if2 .if2 .taken)) (c .before .before .before .if3 .taken)
     (c .before .before .if4 .taken) (c .before .if5 .taken))
     (c .has-in-span .ensures)

@@ -14,23 +14,20 @@ slice-aggregate-carries-over c = search needs
 
 carries-over-requires : tie.Need-carries-over-requires
 carries-over-requires c κs =
-    let entry = c .before .before .before in (
-      entry .pre .0,
-      entry .pre .1,
-      omega arith,
-      entry .pre .1,
-      entry .pre .2,
-      entry .pre .3,
-      entry .pre .4,
-      refl,
-      λ z. zeros-at idCount z,
-    )
+    let entry = c .before .before .before in record {
+      indexed = entry .pre .0;
+      kind = entry .pre .1 .0 .kind;
+      upper = entry .pre .1 .0;
+      lower = entry .pre .1 .1;
+      ids = refl;
+      zeros = zeros-at idCount;
+    }
 
 returns : tie.Need-returns
 returns c =
     let entry = c .before .before .before .before .before in
-    decides-as (c .before .carries-over .result) _ _ (each-carries (entry .pre .0 .words) _ _ (entry .pre .2))
-    (carries-each (entry .pre .0 .words) _ _ (entry .pre .2)) (c .before .carries-over .ensures)
+    decides-as (c .before .carries-over .result) _ _ (each-carries (entry .pre .0 .words) _ _ (entry .pre .1 .0))
+    (carries-each (entry .pre .0 .words) _ _ (entry .pre .1 .0)) (c .before .carries-over .ensures)
 
 pub all-carried-spec : {M : Type 1} → statement M
 all-carried-spec = tie.close (tie.spec slice-aggregate-carries-over carries-over-requires returns)

@@ -18,12 +18,19 @@ slice-aggregate-carries-over c = search needs
 carries-over-requires : tie.Need-carries-over-requires
 carries-over-requires c κs =
     let entry = c .before .before .before in
-    (entry .pre, omega arith, omega arith, omega arith, omega arith, omega arith, omega arith, refl, λ z. zeros-at idCount z)
+    record {
+      indexed = entry .pre;
+      kind = omega arith;
+      upper = record { kind = omega arith; ids = refl };
+      lower = record { kind = omega arith; ids = refl };
+      ids = refl;
+      zeros = zeros-at idCount;
+    }
 
 returns : tie.Need-returns
 returns c =
     let entry = c .before .before .before .before .before in
-    let t = now (entry .args .t) in
+    let t = now (entry .args .table) in
     decides-as (c .before .carries-over .result) _ _ (λ each x y z w d p. each-fact t 10 (Carried t 10 9 7) each x y z p w d)
     (λ meets. fact-each (entry .pre .words) 10 (Carried t 10 9 7) (λ x y z p w d. meets x y z w d p))
     (c .before .carries-over .ensures)

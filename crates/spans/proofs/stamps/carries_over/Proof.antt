@@ -1,23 +1,22 @@
--- `stamps::carries_over` meets its contract. The loop's invariant: the words of kind k before `i` are carried over, and the
+-- `stamps::carries_over` meets its contract. The loop's invariant: the words of kind k before `at` are carried over, and the
 -- stamps are those of the span of the last one. The measure is the number of words left. Assumes nothing.
-use Prim.Native.Nat.{_-_, _<_}
+use Prim.Native.Nat.{_-_}
+use mathlib.Core.Path.{refl}
 use native.Mathlib.Omega.{arith}
-use lib.ListN.{length}
 use borrow.Author.Needs.{needs}
-use denote.Ref.{now}
-use Rattle.spans.specs.Graphs.{Id}
 use Rattle.spans.proofs.Decided.{decided-met, decided-broken}
-use Rattle.spans.proofs.Places.{first-id}
+use Rattle.spans.proofs.SpanPlaces.{first-id}
 use Rattle.spans.proofs.Passed.{passed-none, passed-end}
-use Rattle.spans.proofs.Carrying.{Carrying, carrying-none, carrying-same, carrying-more, last-id, stamps-decide}
+use Rattle.spans.proofs.Carrying.{Carrying, carrying-none, carrying-within, carrying-kind, carrying-next, carrying-more}
+use Rattle.spans.proofs.Carrying.{last-id, first-counted, last-counted, stamps-decide}
 use Rattle.spans.proofs.stamps.carries_over.Statement.{statement}
 use Rattle.spans.proofs.stamps.carries_over.Tie as tie
 
 abbrev Inv-loop : tie.InvT-loop
-Inv-loop t s stamps₀ k m l i₀ end last₀ stamps i last = Carrying t stamps k m l end last i
+Inv-loop table index stamps₀ k m l at₀ end last₀ stamps at last = Carrying table stamps k m l end last at
 
 abbrev μ-loop : tie.MeasureT-loop
-μ-loop t s stamps₀ k m l i₀ end last₀ stamps i last = end - i
+μ-loop table index stamps₀ k m l at₀ end last₀ stamps at last = end - at
 
 word-of-requires : tie.Need-word-of-requires Inv-loop μ-loop
 word-of-requires c κs = search needs
@@ -38,14 +37,14 @@ loop-holds : tie.Need-loop-holds Inv-loop μ-loop
 loop-holds c =
     let entry = c .before .before .before .before .before .before .before in
     carrying-none _ _ _ _ _ _ _ (passed-none _ _ _ _ _ _ (c .before .before .before .word-of .ensures)
-    (c .before .word-of2 .ensures) (c .before .before .place-of .ensures) (c .place-of2 .ensures)) (entry .pre .7)
-    (entry .pre .8)
+    (c .before .word-of2 .ensures) (c .before .before .place-of .ensures) (c .place-of2 .ensures)) (entry .pre .ids)
+    (entry .pre .zeros)
 
-mul-w : tie.Need-mul-w Inv-loop μ-loop
-mul-w c = omega (arith, c .before .loop .inv .passed .within)
+mul-word : tie.Need-mul-word Inv-loop μ-loop
+mul-word c = omega (arith, c .before .loop .inv .passed .within)
 
-shared-slice-read-w : tie.Need-shared-slice-read-w Inv-loop μ-loop
-shared-slice-read-w c = omega (arith, c .before .before .loop .inv .passed .within)
+shared-slice-read-word : tie.Need-shared-slice-read-word Inv-loop μ-loop
+shared-slice-read-word c = omega (arith, c .before .before .loop .inv .passed .within)
 
 first-of-requires : tie.Need-first-of-requires Inv-loop μ-loop
 first-of-requires c κs = search needs
@@ -53,11 +52,9 @@ first-of-requires c κs = search needs
 span-at-requires : tie.Need-span-at-requires Inv-loop μ-loop
 span-at-requires c κs =
     let at-loop = c .before .before .before in
-    let entry = at-loop .before .before .before .before .before .before .before .before in (
-      omega arith,
-      rw (c .first-of .ensures) (first-id (entry .pre .0 .words) (at-loop .loop .i)
-          (omega (arith, at-loop .loop .inv .passed .within))),
-    )
+    let entry = at-loop .before .before .before .before .before .before .before .before in
+    let within = carrying-within (at-loop .loop .inv) (c .before .before .loop-test .taken) in
+    (entry .pre .upper .kind, rw (c .first-of .ensures) (first-id (entry .pre .indexed .words) _ within))
 
 stamp-next-requires : tie.Need-stamp-next-requires Inv-loop μ-loop
 stamp-next-requires c κs =
@@ -65,14 +62,14 @@ stamp-next-requires c κs =
     let at-loop = at-loop-test .before in
     let entry = at-loop .before .before .before .before .before .before .before .before in
     let carrying = at-loop .loop .inv in
-    let i = at-loop .loop .i in
+    let taken = at-loop-test .loop-test .taken in
     let span = rw (c .before .before .first-of .ensures) at (c .before .span-at .ensures) in (
-      entry .pre .0,
-      omega (arith, span, first-id (entry .pre .0 .words) i (omega (arith, carrying .passed .within)), entry .pre .4),
-      carrying .ids,
-      omega (arith, span, carrying .low i (omega arith) (at-loop-test .loop-test .taken)),
-      carrying .most,
-      carrying-same carrying (omega arith) _ span,
+      record {
+        indexed = entry .pre .indexed;
+        counted = first-counted (entry .pre) _ (carrying-within carrying taken) _ _ span refl;
+        ids = carrying .ids;
+      },
+      carrying-next carrying taken (entry .pre .upper) _ span,
     )
 
 last-of-requires : tie.Need-last-of-requires Inv-loop μ-loop
@@ -80,30 +77,32 @@ last-of-requires c κs = search needs
 
 span-at-requires-2 : tie.Need-span-at-requires-2 Inv-loop μ-loop
 span-at-requires-2 c κs =
-    let at-span = c .before .before .before .before .before .before in
-    let at-loop = at-span .before .before .before .before in
-    let entry = at-loop .before .before .before .before .before .before .before .before in (
-      omega arith,
-      rw (c .last-of .ensures) (last-id (entry .pre .0 .words) (entry .args .k) (entry .args .m) (entry .args .l)
-          (entry .pre .4) (entry .pre .6) (at-loop .loop .i) (omega (arith, at-loop .loop .inv .passed .within))),
-    )
+    let at-loop-test = c .before .before .before .before .before .before .before .before .before in
+    let at-loop = at-loop-test .before in
+    let entry = at-loop .before .before .before .before .before .before .before .before in
+    let within = carrying-within (at-loop .loop .inv) (at-loop-test .loop-test .taken) in
+    (entry .pre .lower .kind, rw (c .last-of .ensures) (last-id (entry .pre) _ within))
 
 is-stamped-requires : tie.Need-is-stamped-requires Inv-loop μ-loop
 is-stamped-requires c κs =
     let at-stamp-next = c .before .before .before .before .before in
-    let at-loop = at-stamp-next .before .before .before .before .before .before in
+    let at-loop-test = at-stamp-next .before .before .before .before .before in
+    let at-loop = at-loop-test .before in
     let entry = at-loop .before .before .before .before .before .before .before .before in
-    let id : Id (c .before .last-of .result) =
-    rw (c .before .last-of .ensures) (last-id (entry .pre .0 .words) (entry .args .k) (entry .args .m) (entry .args .l)
-    (entry .pre .4) (entry .pre .6) (at-loop .loop .i) (omega (arith, at-loop .loop .inv .passed .within))) in
-    (entry .pre .0, omega (arith, c .span-at2 .ensures, id, entry .pre .6), at-stamp-next .stamp-next .ensures .ids)
+    let within = carrying-within (at-loop .loop .inv) (at-loop-test .loop-test .taken) in
+    let other = rw (c .before .last-of .ensures) at (c .span-at2 .ensures) in
+    record {
+      indexed = entry .pre .indexed;
+      counted = last-counted (entry .pre) _ within _ _ refl other;
+      ids = at-stamp-next .stamp-next .ensures .ids;
+    }
 
 same-length : tie.Need-same-length Inv-loop μ-loop
 same-length c =
     let at-stamp-next = c .before .before .before .before .before .before .before in
     let at-loop = at-stamp-next .before .before .before .before .before .before in
     let entry = at-loop .before .before .before .before .before .before .before .before in
-    omega (arith, at-stamp-next .stamp-next .ensures .ids, at-loop .loop .inv .ids, entry .pre .7)
+    omega (arith, at-stamp-next .stamp-next .ensures .ids, at-loop .loop .inv .ids, entry .pre .ids)
 
 returns : tie.Need-returns Inv-loop μ-loop
 returns c =
@@ -113,19 +112,17 @@ returns c =
     let at-loop = at-loop-test .before in
     let entry = at-loop .before .before .before .before .before .before .before .before in
     let carrying = at-loop .loop .inv in
-    let i = at-loop .loop .i in
+    let taken = at-loop-test .loop-test .taken in
+    let within = carrying-within carrying taken in
+    let stamped = at-stamp-next .stamp-next .ensures in
+    let answer = c .before .is-stamped .result in
     let span = rw (at-span .before .first-of .ensures) at (at-span .span-at .ensures) in
-    let stamped = rw span at (at-stamp-next .stamp-next .ensures) in
-    let answer = rw (span, c .before .before .span-at2 .ensures, c .before .before .before .last-of .ensures) at
-    (c .before .is-stamped .ensures) in
-    let within : i < length (now (entry .args .t)) = omega (arith, carrying .passed .within) in
-    let decided = stamps-decide (entry .pre .0 .words) (entry .args .k) (entry .args .m) (entry .args .l) (entry .pre .4)
-    (entry .pre .6) i within stamped (c .before .is-stamped .result) answer in
-    let kind = carrying .passed .left i (omega arith) (at-loop-test .loop-test .taken) in
-    λ carries. decided-broken (c .before .is-stamped .result) _ decided (c .if1 .taken) (carries i within kind)
+    let other = rw (c .before .before .before .last-of .ensures) at (c .before .before .span-at2 .ensures) in
+    let decided = stamps-decide (entry .pre) _ within _ _ span other stamped answer (c .before .is-stamped .ensures) in
+    λ carries. decided-broken answer _ decided (c .if1 .taken) (carries _ within (carrying-kind carrying taken))
 
-add-i : tie.Need-add-i Inv-loop μ-loop
-add-i c =
+add-at : tie.Need-add-at Inv-loop μ-loop
+add-at c =
     let at-loop-test = c .before .before .before .before .before .before .before .before .before .before .before .before in
     omega (arith, at-loop-test .before .loop .inv .passed .within, at-loop-test .loop-test .taken)
 
@@ -140,22 +137,19 @@ loop-again c =
     let at-loop = at-loop-test .before in
     let entry = at-loop .before .before .before .before .before .before .before .before in
     let carrying = at-loop .loop .inv in
-    let i = at-loop .loop .i in
+    let taken = at-loop-test .loop-test .taken in
+    let within = carrying-within carrying taken in
+    let stamped = at-stamp-next .stamp-next .ensures in
+    let answer = c .before .is-stamped .result in
     let span = rw (at-span .before .first-of .ensures) at (at-span .span-at .ensures) in
-    let stamped = rw span at (at-stamp-next .stamp-next .ensures) in
-    let answer = rw (span, c .before .before .span-at2 .ensures, c .before .before .before .last-of .ensures) at
-    (c .before .is-stamped .ensures) in
-    let within : i < length (now (entry .args .t)) = omega (arith, carrying .passed .within) in
-    let decided = stamps-decide (entry .pre .0 .words) (entry .args .k) (entry .args .m) (entry .args .l) (entry .pre .4)
-    (entry .pre .6) i within stamped (c .before .is-stamped .result) answer in
-    let carried = decided-met (c .before .is-stamped .result) _ decided (c .if1 .left) in
-    rw span (carrying-more (entry .pre .0 .words) _ _ _ (entry .pre .4) (entry .pre .6) _ _ _ _ i carrying
-    (at-loop-test .loop-test .taken) stamped carried)
+    let other = rw (c .before .before .before .last-of .ensures) at (c .before .before .span-at2 .ensures) in
+    let decided = stamps-decide (entry .pre) _ within _ _ span other stamped answer (c .before .is-stamped .ensures) in
+    carrying-more carrying taken (entry .pre .indexed .words) _ span stamped (decided-met answer _ decided (c .if1 .left))
 
 same-length-2 : tie.Need-same-length-2 Inv-loop μ-loop
 same-length-2 c =
     let entry = c .before .before .before .before .before .before .before .before .before in
-    omega (arith, c .before .loop .inv .ids, entry .pre .7)
+    omega (arith, c .before .loop .inv .ids, entry .pre .ids)
 
 returns-2 : tie.Need-returns-2 Inv-loop μ-loop
 returns-2 c = passed-end _ _ _ _ (c .before .loop .inv .passed) (c .loop-test .left)
@@ -172,8 +166,8 @@ carries-over-spec =
     word-of-requires-2
     place-of-requires-2
     loop-holds
-    mul-w
-    shared-slice-read-w
+    mul-word
+    shared-slice-read-word
     first-of-requires
     span-at-requires
     stamp-next-requires
@@ -182,7 +176,7 @@ carries-over-spec =
     is-stamped-requires
     same-length
     returns
-    add-i
+    add-at
     loop-less
     loop-again
     same-length-2

@@ -1,4 +1,4 @@
--- `stamps::stamp_next` meets its contract: stamps of an earlier span are below j. Assumes nothing.
+-- `stamps::stamp_next` meets its contract: stamps of an earlier span are below this one's. Assumes nothing.
 use native.Mathlib.Omega.{arith}
 use borrow.Author.Needs.{needs}
 use Rattle.spans.proofs.stamps.stamp_next.Statement.{statement}
@@ -7,7 +7,7 @@ use Rattle.spans.proofs.stamps.stamp_next.Tie as tie
 stamp-span-requires : tie.Need-stamp-span-requires
 stamp-span-requires c κs =
     let entry = c .before .before .before .before .before in
-    (entry .pre .0, entry .pre .1, entry .pre .2, λ z. omega (arith, entry .pre .3, entry .pre .4 z, c .before .if1 .taken))
+    (entry .pre .0, λ z. omega (arith, entry .pre .1 .order, entry .pre .1 .most z, c .before .if1 .taken))
 
 same-length : tie.Need-same-length
 same-length c = search needs
@@ -18,7 +18,7 @@ returns c = search needs
 returns-2 : tie.Need-returns-2
 returns-2 c =
     let entry = c .before .before .before .before in
-    entry .pre .5 (c .if1 .left)
+    entry .pre .1 .same (c .if1 .left)
 
 pub stamp-next-spec : {M : Type 1} → statement M
 stamp-next-spec = tie.close (tie.spec stamp-span-requires same-length returns returns-2)

@@ -1,6 +1,6 @@
 -- `typing::has_range_roles` meets its contract. Assumes nothing.
 use borrow.Author.Needs.{needs}
-use Rattle.table.proofs.Answers.{decides-true, decides-false}
+use Rattle.table.proofs.TestAnswers.{decides-true, decides-false}
 use Rattle.spans.proofs.Decided.{decides-as}
 use Rattle.spans.proofs.typing.has_range_roles.Statement.{statement}
 use Rattle.spans.proofs.typing.has_range_roles.Tie as tie

@@ -1,7 +1,7 @@
 -- `typing::has_value_roles` meets its contract. Assumes nothing.
 use mathlib.Core.Logic.{inl, inr, ⊎-elim}
 use borrow.Author.Needs.{needs}
-use Rattle.table.proofs.Answers.{decides-true, decides-false}
+use Rattle.table.proofs.TestAnswers.{decides-true, decides-false}
 use Rattle.spans.proofs.Decided.{decides-as}
 use Rattle.spans.proofs.typing.has_value_roles.Statement.{statement}
 use Rattle.spans.proofs.typing.has_value_roles.Tie as tie

@@ -1,6 +1,6 @@
 -- `typing::is_literal_only` meets its contract. Assumes nothing.
 use borrow.Author.Needs.{needs}
-use Rattle.table.proofs.Answers.{decides-true, decides-false}
+use Rattle.table.proofs.TestAnswers.{decides-true, decides-false}
 use Rattle.spans.proofs.Decided.{decides-as}
 use Rattle.spans.proofs.typing.is_literal_only.Statement.{statement}
 use Rattle.spans.proofs.typing.is_literal_only.Tie as tie

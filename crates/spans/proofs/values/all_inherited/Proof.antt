@@ -1,5 +1,5 @@
--- `values::all_inherited` meets its contract. The loop's invariant: the values before `i` are inherited, and `g` is where those
--- with the subject and object of the last one start. The measure is the number of values left. Assumes nothing.
+-- `values::all_inherited` meets its contract. The loop's invariant: the values before `at` are inherited, and `group` is where
+-- those with the subject and object of the last one start. The measure is the number of values left. Assumes nothing.
 use Prim.Native.Nat.{_-_, _<_}
 use native.Mathlib.Omega.{arith}
 use lib.ListN.{length}
@@ -13,10 +13,10 @@ use Rattle.spans.proofs.values.all_inherited.Statement.{statement}
 use Rattle.spans.proofs.values.all_inherited.Tie as tie
 
 abbrev Inv-loop : tie.InvT-loop
-Inv-loop t s i₀ end g₀ i g = Inheriting t end i g
+Inv-loop table index at₀ end group₀ at group = Inheriting table end at group
 
 abbrev μ-loop : tie.MeasureT-loop
-μ-loop t s i₀ end g₀ i g = end - i
+μ-loop table index at₀ end group₀ at group = end - at
 
 word-of-requires : tie.Need-word-of-requires Inv-loop μ-loop
 word-of-requires c κs = search needs
@@ -41,13 +41,13 @@ loop-holds c = inheriting-none _ _ (passed-none _ _ _ _ _ _ (c .before .before .
 group-start-requires : tie.Need-group-start-requires Inv-loop μ-loop
 group-start-requires c κs =
     let entry = c .before .before .before .before .before .before .before .before in
-    let inheriting = c .before .loop .inv in (
-      entry .pre .words,
-      omega (arith, inheriting .passed .within),
-      inheriting .within,
-      inheriting .group,
-      inheriting-first inheriting (c .loop-test .taken),
-    )
+    let inheriting = c .before .loop .inv in record {
+      words = entry .pre .words;
+      here = omega (arith, inheriting .passed .within);
+      within = inheriting .within;
+      last = inheriting .group;
+      first = inheriting-first inheriting (c .loop-test .taken);
+    }
 
 mul-is-inherited : tie.Need-mul-is-inherited Inv-loop μ-loop
 mul-is-inherited c = omega (arith, c .before .before .loop .inv .passed .within)
@@ -59,16 +59,14 @@ is-inherited-requires : tie.Need-is-inherited-requires Inv-loop μ-loop
 is-inherited-requires c κs =
     let entry = c .before .before .before .before .before .before .before .before .before .before in
     let inheriting = c .before .before .before .loop .inv in
-    let i = c .before .before .before .loop .i in
+    let i = c .before .before .before .loop .at in
     let group = c .before .group-start .ensures in
-    let within : i < length (now (entry .args .t)) = omega (arith, inheriting .passed .within) in (
-      entry .pre,
-      entry .pre .words .facts i within,
-      inheriting .passed .left i (omega arith)
-          (c .before .before .loop-test .taken),
-      omega (arith, group .within),
-      group .before,
-    )
+    let within : i < length (now (entry .args .table)) = omega (arith, inheriting .passed .within) in record {
+      indexed = entry .pre;
+      fact = entry .pre .words .facts i within;
+      value = inheriting .passed .left i (omega arith) (c .before .before .loop-test .taken);
+      place = record { within = omega (arith, group .within); before = group .before };
+    }
 
 returns : tie.Need-returns Inv-loop μ-loop
 returns c =
@@ -76,13 +74,13 @@ returns c =
     let at-loop = at-loop-test .before in
     let entry = at-loop .before .before .before .before .before .before .before in
     let inheriting = at-loop .loop .inv in
-    let i = at-loop .loop .i in
-    let within : i < length (now (entry .args .t)) = omega (arith, inheriting .passed .within) in
+    let i = at-loop .loop .at in
+    let within : i < length (now (entry .args .table)) = omega (arith, inheriting .passed .within) in
     λ met. decided-broken (c .before .is-inherited .result) _ (c .before .is-inherited .ensures) (c .if1 .taken)
     (inherits-each (entry .pre .words) met i within (inheriting .passed .left i (omega arith) (at-loop-test .loop-test .taken)))
 
-add-i : tie.Need-add-i Inv-loop μ-loop
-add-i c =
+add-at : tie.Need-add-at Inv-loop μ-loop
+add-at c =
     let at-loop = c .before .before .before .before .before in
     omega (arith, at-loop .loop .inv .passed .within)
 
@@ -99,7 +97,7 @@ loop-again c =
 returns-2 : tie.Need-returns-2 Inv-loop μ-loop
 returns-2 c =
     let entry = c .before .before .before .before .before .before .before .before in
-    each-inherits (now (entry .args .t)) (passed-end _ _ _ _ (c .before .loop .inv .passed) (c .loop-test .left))
+    each-inherits (now (entry .args .table)) (passed-end _ _ _ _ (c .before .loop .inv .passed) (c .loop-test .left))
 
 pub all-inherited-spec : {M : Type 1} → statement M
 all-inherited-spec =
@@ -118,7 +116,7 @@ all-inherited-spec =
     shared-slice-read-is-inherited
     is-inherited-requires
     returns
-    add-i
+    add-at
     loop-less
     loop-again
     returns-2)

@@ -5,7 +5,8 @@ use native.Mathlib.Omega.{arith}
 use borrow.Author.Needs.{needs}
 use denote.Ref.{now}
 use Rattle.table.specs.Parts.{thirdOf}
-use Rattle.spans.specs.Spans.{spanAt, Covered}
+use Rattle.spans.specs.Spans.{spanAt}
+use Rattle.spans.specs.Passes.{Covered}
 use Rattle.spans.proofs.Decided.{decides-as}
 use Rattle.spans.proofs.SpanFacts.{group-word, covered-inherited, inherited-covered}
 use Rattle.spans.proofs.values.is_inherited.Statement.{statement}
@@ -22,26 +23,25 @@ sub-is-covered c = search needs
 
 is-covered-requires : tie.Need-is-covered-requires
 is-covered-requires c κs =
-    let entry = c .before .before .before .before in (
-      entry .pre .0,
-      omega arith,
-      entry .pre .3,
-      rw (c .before .third-of .ensures) (entry .pre .4),
-      omega (arith, c .before .third-of .ensures, entry .pre .2),
-    )
+    let entry = c .before .before .before .before in record {
+      indexed = entry .pre .indexed;
+      counted = omega arith;
+      place = rw (c .before .third-of .ensures) (entry .pre .place);
+      room = omega (arith, c .before .third-of .ensures, entry .pre .value);
+    }
 
 returns : tie.Need-returns
 returns c =
     let entry = c .before .before .before .before .before in
-    let words = now (entry .args .t) in
-    let w = entry .args .w in
-    let ids = entry .pre .1 .allowed in
+    let words = now (entry .args .table) in
+    let w = entry .args .word in
+    let ids = entry .pre .fact .allowed in
     let covered = rw (c .before .span-at .ensures, c .before .before .third-of .ensures) at (c .is-covered .ensures) in
     decides-as (c .is-covered .result) _ _
     (λ h. covered-inherited words _ _ _ (ids .first) (ids .second) (ids .third) (subst (Covered words (spanAt 6 (thirdOf w)))
-    (group-word w (entry .pre .2)) h))
-    (λ h. subst (Covered words (spanAt 6 (thirdOf w))) (sym (group-word w (entry .pre .2))) (inherited-covered words _ _ _
-    (ids .first) (ids .second) (ids .third) (entry .pre .0 .words) h))
+    (group-word w (entry .pre .value)) h))
+    (λ h. subst (Covered words (spanAt 6 (thirdOf w))) (sym (group-word w (entry .pre .value))) (inherited-covered words _ _ _
+    (ids .first) (ids .second) (ids .third) (entry .pre .indexed .words) h))
     covered
 
 pub is-inherited-spec : {M : Type 1} → statement M

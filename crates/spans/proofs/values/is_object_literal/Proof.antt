@@ -19,7 +19,7 @@ returns c =
     let entry = c .before .before .before .before .before in
     decides-as (c .has-least .result) _ _
     (λ h p. h)
-    (λ f. f (subst (λ x. Stands (now (entry .args .t)) 8 (entry .args .c) x 0) (c .before .if1 .taken)
+    (λ f. f (subst (λ x. Stands (now (entry .args .table)) 8 (entry .args .c) x 0) (c .before .if1 .taken)
     (c .before .before .only-second .ensures .some (omega arith))))
     (c .has-least .ensures)
 

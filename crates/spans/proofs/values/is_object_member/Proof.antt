@@ -18,7 +18,8 @@ returns : tie.Need-returns
 returns c =
     let entry = c .before .before .before .before .before .before in
     decides-as (c .has-in-span .result) _ _
-    (λ h w p n. only-is (c .before .before .before .only-second .ensures) (λ x. Stands (now (entry .args .t)) 9 (entry .args .b) x
+    (λ h w p n. only-is (c .before .before .before .only-second .ensures) (λ x. Stands (now (entry .args .table)) 9
+    (entry .args .b) x
     0) h w p)
     (λ f. f _ (c .before .before .before .only-second .ensures .some (c .before .before .if1 .taken)) (c .before .if2 .taken))
     (c .has-in-span .ensures)

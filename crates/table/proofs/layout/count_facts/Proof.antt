@@ -1,4 +1,4 @@
--- `layout::count_facts`. The loop's invariant: the number of facts is between lo and lo + size. The measure is size. Assumes
+-- `layout::count_facts`. The loop's invariant: the number of facts is from low to low + size. The measure is size. Assumes
 -- nothing.
 use mathlib.Core.Path.{refl}
 use native.Mathlib.Omega.{arith}
@@ -7,23 +7,23 @@ use lib.ListN.{length}
 use borrow.Author.Needs.{needs}
 use Rattle.rdfs.specs.Numbers.{product}
 use Rattle.rdfs.specs.Words.{filled}
-use Rattle.table.proofs.Halving.{Between, moved-within, between-half, between-last}
+use Rattle.table.proofs.Halving.{Within, moved-within, within-half, within-last}
 use Rattle.table.proofs.Filled.{filled-within, filled-turns}
 use Rattle.table.proofs.layout.count_facts.Statement.{statement}
 use Rattle.table.proofs.layout.count_facts.Tie as tie
 
 abbrev Inv-loop : tie.InvT-loop
-Inv-loop t lo₀ size₀ lo size = Between (length t) (length (filled t)) lo size
+Inv-loop table low₀ size₀ low size = Within (length table) (length (filled table)) low size
 
 abbrev μ-loop : tie.MeasureT-loop
-μ-loop t lo₀ size₀ lo size = size
+μ-loop table low₀ size₀ low size = size
 
 returns : tie.Need-returns Inv-loop μ-loop
-returns c = omega (arith, filled-within product (now (c .before .before .args .t)) (c .before .before .pre))
+returns c = omega (arith, filled-within product (now (c .before .before .args .table)) (c .before .before .pre))
 
 loop-holds : tie.Need-loop-holds Inv-loop μ-loop
 loop-holds c =
-    let within = filled-within product (now (c .before .before .args .t)) (c .before .before .pre) in
+    let within = filled-within product (now (c .before .before .args .table)) (c .before .before .pre) in
     record { some = omega arith; within = omega arith; low = omega arith; high = omega arith }
 
 add-is-below : tie.Need-add-is-below Inv-loop μ-loop
@@ -38,18 +38,18 @@ shared-slice-read-is-below c = omega arith
 is-below-requires : tie.Need-is-below-requires Inv-loop μ-loop
 is-below-requires c κs = search needs
 
-mul-lo : tie.Need-mul-lo Inv-loop μ-loop
-mul-lo c =
+mul-low : tie.Need-mul-low Inv-loop μ-loop
+mul-low c =
     let loop = c .before .before .before .loop in
     let start = c .before .before .before .before .before .before in
-    let turn = filled-turns product (now (start .args .t)) (start .pre) _ _ (c .is-below .ensures) in
+    let turn = filled-turns product (now (start .args .table)) (start .pre) _ _ (c .is-below .ensures) in
     omega (arith, moved-within (loop .inv) _ _ turn)
 
-add-lo : tie.Need-add-lo Inv-loop μ-loop
-add-lo c =
+add-low : tie.Need-add-low Inv-loop μ-loop
+add-low c =
     let loop = c .before .before .before .loop in
     let start = c .before .before .before .before .before .before in
-    let turn = filled-turns product (now (start .args .t)) (start .pre) _ _ (c .is-below .ensures) in
+    let turn = filled-turns product (now (start .args .table)) (start .pre) _ _ (c .is-below .ensures) in
     omega (arith, moved-within (loop .inv) _ _ turn)
 
 sub-size : tie.Need-sub-size Inv-loop μ-loop
@@ -62,8 +62,8 @@ loop-again : tie.Need-loop-again Inv-loop μ-loop
 loop-again c =
     let loop = c .before .before .before .loop in
     let start = c .before .before .before .before .before .before in
-    let turn = filled-turns product (now (start .args .t)) (start .pre) _ _ (c .is-below .ensures) in
-    between-half (loop .inv) _ _ refl (c .before .before .loop-test .taken) turn
+    let turn = filled-turns product (now (start .args .table)) (start .pre) _ _ (c .is-below .ensures) in
+    within-half (loop .inv) _ _ refl (c .before .before .loop-test .taken) turn
 
 mul-is-below-2 : tie.Need-mul-is-below-2 Inv-loop μ-loop
 mul-is-below-2 c = omega arith
@@ -78,20 +78,19 @@ add-result : tie.Need-add-result Inv-loop μ-loop
 add-result c =
     let loop = c .before .before .before .loop in
     let start = c .before .before .before .before .before .before in
-    let turn = filled-turns product (now (start .args .t)) (start .pre) _ _ (c .is-below2 .ensures) in
+    let turn = filled-turns product (now (start .args .table)) (start .pre) _ _ (c .is-below2 .ensures) in
     omega (
       arith,
-      between-last (loop .inv) _ (c .before .before .loop-test .left) turn,
-      filled-within product (now (c .before .before .before .before .before .before .args .t))
-          (c .before .before .before .before .before .before .pre),
+      within-last (loop .inv) _ (c .before .before .loop-test .left) turn,
+      filled-within product (now (start .args .table)) (start .pre),
     )
 
 returns-2 : tie.Need-returns-2 Inv-loop μ-loop
 returns-2 c =
     let loop = c .before .before .before .loop in
     let start = c .before .before .before .before .before .before in
-    let turn = filled-turns product (now (start .args .t)) (start .pre) _ _ (c .is-below2 .ensures) in
-    between-last (loop .inv) _ (c .before .before .loop-test .left) turn
+    let turn = filled-turns product (now (start .args .table)) (start .pre) _ _ (c .is-below2 .ensures) in
+    within-last (loop .inv) _ (c .before .before .loop-test .left) turn
 
 pub count-facts-spec : {M : Type 1} → statement M
 count-facts-spec =
@@ -105,8 +104,8 @@ count-facts-spec =
     mul-is-below
     shared-slice-read-is-below
     is-below-requires
-    mul-lo
-    add-lo
+    mul-low
+    add-low
     sub-size
     loop-less
     loop-again

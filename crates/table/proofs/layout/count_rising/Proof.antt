@@ -6,24 +6,24 @@ use Prim.Native.Nat.{_-_}
 use native.Mathlib.Omega.{arith}
 use borrow.Author.Needs.{needs}
 use lib.ListN.{length}
-use Rattle.table.proofs.Rising.{Walk, walk-start, walk-more, walk-low, walk-no-fact, walk-end}
+use Rattle.table.proofs.LayoutWalks.{Walk, walk-start, walk-more, walk-low, walk-no-fact, walk-end}
 use Rattle.table.proofs.layout.count_rising.Statement.{statement}
 use Rattle.table.proofs.layout.count_rising.Tie as tie
 
 abbrev Inv-loop : tie.InvT-loop
-Inv-loop t i₀ last₀ i last = Walk t i last
+Inv-loop table place₀ last₀ place last = Walk table place last
 
 abbrev μ-loop : tie.MeasureT-loop
-μ-loop t i₀ last₀ i last = length t - i
+μ-loop table place₀ last₀ place last = length table - place
 
 loop-holds : tie.Need-loop-holds Inv-loop μ-loop
 loop-holds c = walk-start _
 
-mul-w : tie.Need-mul-w Inv-loop μ-loop
-mul-w c = omega arith
+mul-word : tie.Need-mul-word Inv-loop μ-loop
+mul-word c = omega arith
 
-shared-slice-read-w : tie.Need-shared-slice-read-w Inv-loop μ-loop
-shared-slice-read-w c = omega arith
+shared-slice-read-word : tie.Need-shared-slice-read-word Inv-loop μ-loop
+shared-slice-read-word c = omega arith
 
 returns : tie.Need-returns Inv-loop μ-loop
 returns c = walk-low (c .before .before .before .loop .inv) (c .before .before .loop-test .taken) (c .if1 .taken)
@@ -37,8 +37,8 @@ returns-2 c =
     walk-no-fact (w .loop .inv) (c .before .before .before .before .loop-test .taken) (sym (c .before .is-fact .ensures)
     ∙ not-true (c .before .is-fact .result) (c .if2 .taken))
 
-add-i : tie.Need-add-i Inv-loop μ-loop
-add-i c = omega arith
+add-place : tie.Need-add-place Inv-loop μ-loop
+add-place c = omega arith
 
 loop-less : tie.Need-loop-less Inv-loop μ-loop
 loop-less c = omega arith
@@ -59,12 +59,12 @@ count-rising-spec =
     Inv-loop
     μ-loop
     loop-holds
-    mul-w
-    shared-slice-read-w
+    mul-word
+    shared-slice-read-word
     returns
     is-fact-requires
     returns-2
-    add-i
+    add-place
     loop-less
     loop-again
     returns-3)

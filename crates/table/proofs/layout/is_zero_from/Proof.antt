@@ -1,31 +1,31 @@
--- `layout::is_zero_from`. The loop's invariant: `highest` is the highest word from n up to i. The measure is the number of words
--- left. Assumes nothing.
+-- `layout::is_zero_from`. The loop's invariant: `highest` is the highest word from `from` up to `place`. The measure is the
+-- number of words left. Assumes nothing.
 use Prim.Native.Nat.{_-_}
 use mathlib.Core.Path.{sym}
 use mathlib.Core.Logic.{⊎-elim}
 use native.Mathlib.Omega.{arith}
 use lib.ListN.{length}
-use Rattle.table.proofs.Rising.{Highest, highest-start, highest-more, highest-higher, highest-zero}
+use Rattle.table.proofs.LayoutWalks.{Highest, highest-start, highest-more, highest-higher, highest-zero}
 use Rattle.table.proofs.layout.is_zero_from.Statement.{statement}
 use Rattle.table.proofs.layout.is_zero_from.Tie as tie
 
 abbrev Inv-loop : tie.InvT-loop
-Inv-loop t n highest₀ i₀ highest i = Highest t n i highest
+Inv-loop table from highest₀ place₀ highest place = Highest table from place highest
 
 abbrev μ-loop : tie.MeasureT-loop
-μ-loop t n highest₀ i₀ highest i = length t - i
+μ-loop table from highest₀ place₀ highest place = length table - place
 
 loop-holds : tie.Need-loop-holds Inv-loop μ-loop
 loop-holds c = highest-start _ _
 
-mul-w : tie.Need-mul-w Inv-loop μ-loop
-mul-w c = omega arith
+mul-word : tie.Need-mul-word Inv-loop μ-loop
+mul-word c = omega arith
 
-shared-slice-read-w : tie.Need-shared-slice-read-w Inv-loop μ-loop
-shared-slice-read-w c = omega arith
+shared-slice-read-word : tie.Need-shared-slice-read-word Inv-loop μ-loop
+shared-slice-read-word c = omega arith
 
-add-i : tie.Need-add-i Inv-loop μ-loop
-add-i c = omega arith
+add-place : tie.Need-add-place Inv-loop μ-loop
+add-place c = omega arith
 
 loop-less : tie.Need-loop-less Inv-loop μ-loop
 loop-less c = omega arith
@@ -51,9 +51,9 @@ is-zero-from-spec =
     Inv-loop
     μ-loop
     loop-holds
-    mul-w
-    shared-slice-read-w
-    add-i
+    mul-word
+    shared-slice-read-word
+    add-place
     loop-less
     loop-again
     returns

@@ -1,5 +1,5 @@
--- `room::clear_from`. The loop's invariant is `Clearing`: the words from k up to i are zeros. The measure is the number of words
--- left. Assumes nothing.
+-- `room::clear_from`. The loop's invariant is `Clearing`: the words from `from` up to `place` are zeros. The measure is the
+-- number of words left. Assumes nothing.
 use Prim.Native.Nat.{_-_}
 use native.Mathlib.Omega.{arith}
 use lib.ListN.{length}
@@ -8,22 +8,22 @@ use Rattle.table.proofs.room.clear_from.Statement.{statement}
 use Rattle.table.proofs.room.clear_from.Tie as tie
 
 abbrev Inv-loop : tie.InvT-loop
-Inv-loop t₀ k i₀ t i = Clearing t₀ k t i
+Inv-loop table₀ from place₀ table place = Clearing table₀ from table place
 
 abbrev μ-loop : tie.MeasureT-loop
-μ-loop t₀ k i₀ t i = length t₀ - i
+μ-loop table₀ from place₀ table place = length table₀ - place
 
 loop-holds : tie.Need-loop-holds Inv-loop μ-loop
 loop-holds c = clearing-start _ _ (c .pre)
 
-mul-t : tie.Need-mul-t Inv-loop μ-loop
-mul-t c = omega arith
+mul-table : tie.Need-mul-table Inv-loop μ-loop
+mul-table c = omega arith
 
-slice-write-t : tie.Need-slice-write-t Inv-loop μ-loop
-slice-write-t c = omega arith
+slice-write-table : tie.Need-slice-write-table Inv-loop μ-loop
+slice-write-table c = omega arith
 
-add-i : tie.Need-add-i Inv-loop μ-loop
-add-i c = omega arith
+add-place : tie.Need-add-place Inv-loop μ-loop
+add-place c = omega arith
 
 loop-less : tie.Need-loop-less Inv-loop μ-loop
 loop-less c = omega arith
@@ -44,9 +44,9 @@ clear-from-spec =
     Inv-loop
     μ-loop
     loop-holds
-    mul-t
-    slice-write-t
-    add-i
+    mul-table
+    slice-write-table
+    add-place
     loop-less
     loop-again
     same-length

@@ -1,5 +1,5 @@
--- `room::copy_words`. The loop's invariant is `Copying`: the first i words are copied. The measure is the number of words left.
--- Assumes nothing.
+-- `room::copy_words`. The loop's invariant is `Copying`: the words before `place` are copied. The measure is the number of words
+-- left. Assumes nothing.
 use Prim.Native.Nat.{_-_}
 use mathlib.Core.Path.{sym, _∙_}
 use native.Mathlib.Omega.{arith}
@@ -9,10 +9,10 @@ use Rattle.table.proofs.room.copy_words.Statement.{statement}
 use Rattle.table.proofs.room.copy_words.Tie as tie
 
 abbrev Inv-loop : tie.InvT-loop
-Inv-loop from to₀ i₀ to i = Copying from to i
+Inv-loop from to₀ place₀ to place = Copying from to place
 
 abbrev μ-loop : tie.MeasureT-loop
-μ-loop from to₀ i₀ to i = length from - i
+μ-loop from to₀ place₀ to place = length from - place
 
 loop-holds : tie.Need-loop-holds Inv-loop μ-loop
 loop-holds c = copying-start _ _ (c .pre)
@@ -29,8 +29,8 @@ mul-to-2 c = omega arith
 slice-write-to : tie.Need-slice-write-to Inv-loop μ-loop
 slice-write-to c = omega arith
 
-add-i : tie.Need-add-i Inv-loop μ-loop
-add-i c = omega arith
+add-place : tie.Need-add-place Inv-loop μ-loop
+add-place c = omega arith
 
 loop-less : tie.Need-loop-less Inv-loop μ-loop
 loop-less c = omega arith
@@ -55,7 +55,7 @@ copy-words-spec =
     shared-slice-read-to
     mul-to-2
     slice-write-to
-    add-i
+    add-place
     loop-less
     loop-again
     same-length

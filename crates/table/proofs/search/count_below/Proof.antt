@@ -1,4 +1,4 @@
--- `search::count_below`. The loop's invariant: the number of words below w is between lo and lo + size. The measure is size.
+-- `search::count_below`. The loop's invariant: the number of words below the word is from low to low + size. The measure is size.
 -- Assumes nothing.
 use mathlib.Core.Path.{refl}
 use native.Mathlib.Omega.{arith}
@@ -6,28 +6,31 @@ use denote.Ref.{now}
 use lib.ListN.{take}
 use borrow.Author.Needs.{needs}
 use Rattle.table.specs.Found.{below}
-use Rattle.table.proofs.Halving.{Between, moved-within, between-half, between-last}
+use Rattle.table.proofs.Halving.{Within, moved-within, within-half, within-last}
 use Rattle.table.proofs.Below.{first-within, first-turns}
 use Rattle.table.proofs.search.count_below.Statement.{statement}
 use Rattle.table.proofs.search.count_below.Tie as tie
 
 abbrev Inv-loop : tie.InvT-loop
-Inv-loop t n w lo₀ size₀ lo size = Between n (below (take n t) w) lo size
+Inv-loop table count word low₀ size₀ low size = Within count (below (take count table) word) low size
 
 abbrev μ-loop : tie.MeasureT-loop
-μ-loop t n w lo₀ size₀ lo size = size
+μ-loop table count word low₀ size₀ low size = size
 
 returns : tie.Need-returns Inv-loop μ-loop
-returns c = omega (
-  arith,
-  first-within (now (c .before .before .args .t)) (c .before .before .args .n)
-      (c .before .before .args .w) (c .before .before .pre .0) (c .before .before .pre .1),
-)
+returns c =
+    let start = c .before .before in
+    omega (
+      arith,
+      first-within (now (start .args .table)) (start .args .count) (start .args .word) (start .pre .0)
+          (start .pre .1),
+    )
 
 loop-holds : tie.Need-loop-holds Inv-loop μ-loop
 loop-holds c =
-    let within = first-within (now (c .before .before .args .t)) (c .before .before .args .n) (c .before .before .args .w)
-    (c .before .before .pre .0) (c .before .before .pre .1) in
+    let start = c .before .before in
+    let within = first-within (now (start .args .table)) (start .args .count) (start .args .word) (start .pre .0)
+    (start .pre .1) in
     record { some = omega arith; within = omega arith; low = omega arith; high = omega arith }
 
 add-is-below : tie.Need-add-is-below Inv-loop μ-loop
@@ -42,19 +45,19 @@ shared-slice-read-is-below c = omega arith
 is-below-requires : tie.Need-is-below-requires Inv-loop μ-loop
 is-below-requires c κs = search needs
 
-mul-lo : tie.Need-mul-lo Inv-loop μ-loop
-mul-lo c =
+mul-low : tie.Need-mul-low Inv-loop μ-loop
+mul-low c =
     let loop = c .before .before .before .loop in
     let start = c .before .before .before .before .before .before in
-    let turn = first-turns (now (start .args .t)) (start .args .n) (start .args .w) (start .pre .0) (start .pre .1) _ _
+    let turn = first-turns (now (start .args .table)) (start .args .count) (start .args .word) (start .pre .0) (start .pre .1) _ _
     (omega arith) (c .is-below .ensures) in
     omega (arith, moved-within (loop .inv) _ _ turn)
 
-add-lo : tie.Need-add-lo Inv-loop μ-loop
-add-lo c =
+add-low : tie.Need-add-low Inv-loop μ-loop
+add-low c =
     let loop = c .before .before .before .loop in
     let start = c .before .before .before .before .before .before in
-    let turn = first-turns (now (start .args .t)) (start .args .n) (start .args .w) (start .pre .0) (start .pre .1) _ _
+    let turn = first-turns (now (start .args .table)) (start .args .count) (start .args .word) (start .pre .0) (start .pre .1) _ _
     (omega arith) (c .is-below .ensures) in
     omega (arith, moved-within (loop .inv) _ _ turn)
 
@@ -68,9 +71,9 @@ loop-again : tie.Need-loop-again Inv-loop μ-loop
 loop-again c =
     let loop = c .before .before .before .loop in
     let start = c .before .before .before .before .before .before in
-    let turn = first-turns (now (start .args .t)) (start .args .n) (start .args .w) (start .pre .0) (start .pre .1) _ _
+    let turn = first-turns (now (start .args .table)) (start .args .count) (start .args .word) (start .pre .0) (start .pre .1) _ _
     (omega arith) (c .is-below .ensures) in
-    between-half (loop .inv) _ _ refl (c .before .before .loop-test .taken) turn
+    within-half (loop .inv) _ _ refl (c .before .before .loop-test .taken) turn
 
 mul-is-below-2 : tie.Need-mul-is-below-2 Inv-loop μ-loop
 mul-is-below-2 c = omega arith
@@ -85,24 +88,21 @@ add-result : tie.Need-add-result Inv-loop μ-loop
 add-result c =
     let loop = c .before .before .before .loop in
     let start = c .before .before .before .before .before .before in
-    let turn = first-turns (now (start .args .t)) (start .args .n) (start .args .w) (start .pre .0) (start .pre .1) _ _
+    let turn = first-turns (now (start .args .table)) (start .args .count) (start .args .word) (start .pre .0) (start .pre .1) _ _
     (omega arith) (c .is-below2 .ensures) in
     omega (
       arith,
-      between-last (loop .inv) _ (c .before .before .loop-test .left) turn,
-      first-within (now (c .before .before .before .before .before .before .args .t))
-          (c .before .before .before .before .before .before .args .n)
-          (c .before .before .before .before .before .before .args .w)
-          (c .before .before .before .before .before .before .pre .0) (c .before .before .before .before .before .before .pre .1),
+      within-last (loop .inv) _ (c .before .before .loop-test .left) turn,
+      first-within (now (start .args .table)) (start .args .count) (start .args .word) (start .pre .0) (start .pre .1),
     )
 
 returns-2 : tie.Need-returns-2 Inv-loop μ-loop
 returns-2 c =
     let loop = c .before .before .before .loop in
     let start = c .before .before .before .before .before .before in
-    let turn = first-turns (now (start .args .t)) (start .args .n) (start .args .w) (start .pre .0) (start .pre .1) _ _
+    let turn = first-turns (now (start .args .table)) (start .args .count) (start .args .word) (start .pre .0) (start .pre .1) _ _
     (omega arith) (c .is-below2 .ensures) in
-    between-last (loop .inv) _ (c .before .before .loop-test .left) turn
+    within-last (loop .inv) _ (c .before .before .loop-test .left) turn
 
 pub count-below-spec : {M : Type 1} → statement M
 count-below-spec =
@@ -116,8 +116,8 @@ count-below-spec =
     mul-is-below
     shared-slice-read-is-below
     is-below-requires
-    mul-lo
-    add-lo
+    mul-low
+    add-low
     sub-size
     loop-less
     loop-again

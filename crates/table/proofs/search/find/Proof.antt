@@ -18,19 +18,20 @@ shared-slice-read-if2 c = search needs
 returns : tie.Need-returns
 returns c =
     let s = c .before .before .before .before .before in
-    first-at (now (s .args .t)) (s .args .n) (s .args .w) (s .pre .0) (s .pre .1) _
+    first-at (now (s .args .table)) (s .args .count) (s .args .word) (s .pre .0) (s .pre .1) _
     (c .before .before .before .count-below .ensures) (c .before .before .if1 .taken) (c .if2 .taken)
 
 returns-2 : tie.Need-returns-2
 returns-2 c =
     let s = c .before .before .before .before .before in
-    first-missing (now (s .args .t)) (s .args .n) (s .args .w) (s .pre .0) (s .pre .1) _
+    first-missing (now (s .args .table)) (s .args .count) (s .args .word) (s .pre .0) (s .pre .1) _
     (c .before .before .before .count-below .ensures) (λ l. c .if2 .left)
 
 returns-3 : tie.Need-returns-3
 returns-3 c =
     let s = c .before .before .before in
-    first-missing (now (s .args .t)) (s .args .n) (s .args .w) (s .pre .0) (s .pre .1) _ (c .before .count-below .ensures)
+    first-missing (now (s .args .table)) (s .args .count) (s .args .word) (s .pre .0) (s .pre .1) _
+    (c .before .count-below .ensures)
     (λ l. absurd (omega (arith, l, c .if1 .left)))
 
 pub find-spec : {M : Type 1} → statement M

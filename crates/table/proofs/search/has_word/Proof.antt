@@ -19,13 +19,13 @@ enum-told-2 c = search needs
 returns : tie.Need-returns
 returns c =
     let s = c .before .before .before .before in
-    sym (found-at (take (s .args .n) (now (s .args .t))) (s .args .w) _ (sym (c .before .before .find .ensures)
+    sym (found-at (take (s .args .count) (now (s .args .table))) (s .args .word) _ (sym (c .before .before .find .ensures)
     ∙ c .enum-told .given .1) .0)
 
 returns-2 : tie.Need-returns-2
 returns-2 c =
     let s = c .before .before .before .before in
-    sym (found-missing (take (s .args .n) (now (s .args .t))) (s .args .w) _ (sym (c .before .before .find .ensures)
+    sym (found-missing (take (s .args .count) (now (s .args .table))) (s .args .word) _ (sym (c .before .before .find .ensures)
     ∙ c .enum-told2 .given .1) .0)
 
 pub has-word-spec : {M : Type 1} → statement M

@@ -19,9 +19,9 @@ sub-result-2 : tie.Need-sub-result-2
 sub-result-2 c = search needs
 
 returns : tie.Need-returns
-returns c = elim (decLt (c .args .x) (c .args .w)) [
-  | yes l ↦ omega (arith, ap {B = ℕ} (λ b. cond b 1 0) (lt-ltb (c .args .x) (c .args .w) l))
-  | no l ↦ omega (arith, ap {B = ℕ} (λ b. cond b 1 0) (le-ltb (c .args .x) (c .args .w) (omega arith)))
+returns c = elim (decLt (c .args .word) (c .args .other)) [
+  | yes l ↦ omega (arith, ap {B = ℕ} (λ b. cond b 1 0) (lt-ltb (c .args .word) (c .args .other) l))
+  | no l ↦ omega (arith, ap {B = ℕ} (λ b. cond b 1 0) (le-ltb (c .args .word) (c .args .other) (omega arith)))
 ]
 
 pub is-below-spec : {M : Type 1} → statement M

@@ -1,7 +1,7 @@
 -- `words::is_fact`: the parts are shaped and allowed. Assumes nothing.
 use mathlib.Core.Bool.{false}
-use Rattle.table.proofs.Answers.{decides-true, decides-false, decides-tests, decides-second}
-use Rattle.table.proofs.Parts.{tests-fact}
+use Rattle.table.proofs.TestAnswers.{decides-true, decides-false, decides-tests, decides-second}
+use Rattle.table.proofs.PartLaws.{tests-fact}
 use borrow.Author.Needs.{needs}
 use Rattle.table.proofs.words.is_fact.Statement.{statement}
 use Rattle.table.proofs.words.is_fact.Tie as tie

@@ -2,8 +2,8 @@
 use mathlib.Core.Path.{sym, _∙_}
 use native.Mathlib.Omega.{arith}
 use lib.Seq.{length-take-le}
-use Rattle.ticket.proofs.Ways.{possible-insertable, possible-within, way-no-room, way-room}
 use borrow.Author.Needs.{needs}
+use Rattle.ticket.proofs.Ways.{possible-insertable, possible-within, way-no-room, way-room}
 use Rattle.ticket.proofs.step.insert_saving.Statement.{statement}
 use Rattle.ticket.proofs.step.insert_saving.Tie as tie
 

@@ -11,7 +11,8 @@ delete-requires c κs =
     let s = c .before .before in
     let ids = formed-ids 2 (s .args .k) (s .args .a) (s .args .b) (s .args .c) (s .pre .formed) in
     let shaped = formed-shaped 2 (s .args .k) (s .args .a) (s .args .b) (s .args .c) (s .pre .formed) refl in
-    record { table = ready-asked (s .pre) .table; shaped = shaped; first = ids .0; second = ids .1; third = ids .2 }
+    let counted = ready-asked (s .pre) .table in
+    search needs
 
 same-length : tie.Need-same-length
 same-length c = search needs

@@ -1,8 +1,8 @@
 -- `step::run_insertion`: each way does as the register. Assumes nothing.
 use mathlib.Core.Path.{sym, _∙_}
+use borrow.Author.Needs.{needs}
 use Rattle.ticket_form.proofs.Formed.{formed-ids}
 use Rattle.ticket.proofs.Ways.{ready-asked, way-unknown, way-there, way-clash}
-use borrow.Author.Needs.{needs}
 use Rattle.ticket.proofs.step.run_insertion.Statement.{statement}
 use Rattle.ticket.proofs.step.run_insertion.Tie as tie
 
@@ -32,7 +32,8 @@ clashes-requires : tie.Need-clashes-requires
 clashes-requires c κs =
     let s = c .before .before .before .before .before .before .before .before in
     let ids = formed-ids 1 (s .args .k) (s .args .a) (s .args .b) (s .args .c) (s .pre .formed) in
-    (ready-asked (s .pre) .table, ids .0, ids .1, ids .2)
+    let counted = ready-asked (s .pre) .table in
+    search needs
 
 same-length-3 : tie.Need-same-length-3
 same-length-3 c = search needs

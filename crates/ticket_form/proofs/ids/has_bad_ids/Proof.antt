@@ -14,19 +14,24 @@ has-misplaced-mark-requires : tie.Need-has-misplaced-mark-requires
 has-misplaced-mark-requires c κs = search needs
 
 returns-2 : tie.Need-returns-2
-returns-2 c = simp (
-  sym (c .before .before .before .has-unused-byte .ensures) ∙ c .before .before .if1 .left,
-  sym (c .before .has-misplaced-mark .ensures) ∙ c .if2 .taken,
-)
+returns-2 c =
+    let unused = c .before .before in
+    simp (
+      sym (unused .before .has-unused-byte .ensures) ∙ unused .if1 .left,
+      sym (c .before .has-misplaced-mark .ensures) ∙ c .if2 .taken,
+    )
 
 has-high-id-requires : tie.Need-has-high-id-requires
 has-high-id-requires c κs = search needs
 
 returns-3 : tie.Need-returns-3
-returns-3 c = simp (
-  sym (c .before .before .before .before .has-unused-byte .ensures) ∙ c .before .before .before .if1 .left,
-  sym (c .before .before .has-misplaced-mark .ensures) ∙ c .before .if2 .left,
-) (c .has-high-id .ensures)
+returns-3 c =
+    let misplaced = c .before in
+    let unused = misplaced .before .before in
+    simp (
+      sym (unused .before .has-unused-byte .ensures) ∙ unused .if1 .left,
+      sym (misplaced .before .has-misplaced-mark .ensures) ∙ misplaced .if2 .left,
+    ) (c .has-high-id .ensures)
 
 pub has-bad-ids-spec : {M : Type 1} → statement M
 has-bad-ids-spec =

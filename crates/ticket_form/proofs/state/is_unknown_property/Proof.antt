@@ -1,6 +1,7 @@
 -- `state::is_unknown_property`: kind by kind. Assumes nothing.
 use mathlib.Core.Path.{sym, _∙_}
 use mathlib.Core.Bool.{or-false}
+use borrow.Author.Needs.{needs}
 use borrow.Author.Tests.{ne-eqb}
 use Rattle.ticket_form.proofs.Formed.{formed-ids}
 use Rattle.ticket_form.proofs.state.is_unknown_property.Statement.{statement}
@@ -10,13 +11,13 @@ lacks-either-requires : tie.Need-lacks-either-requires
 lacks-either-requires c κs =
     let s = c .before .before in
     let ids = formed-ids 1 (s .args .k) (s .args .a) (s .args .b) (s .args .c) (s .pre .formed) in
-    (s .pre .table, ids .0, ids .1)
+    search needs
 
 lacks-property-requires : tie.Need-lacks-property-requires
 lacks-property-requires c κs =
     let s = c .before .before in
     let ids = formed-ids 1 (s .args .k) (s .args .a) (s .args .b) (s .args .c) (s .pre .formed) in
-    (s .pre .table, ids .2)
+    search needs
 
 returns : tie.Need-returns
 returns c = simp (c .before .match .keys1) (c .lacks-either .ensures ∙ sym (or-false _))

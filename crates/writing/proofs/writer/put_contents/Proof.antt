@@ -1,130 +1,144 @@
--- `writer::put_contents`. The loop's invariant is `Entered`: the entries of the kinds passed are stored; their facts stand before
--- `from`. The measure is the number of kinds left. Assumes nothing.
+-- `writer::put_contents`. The loop's invariant is `Entered`: the entries of the kinds passed are stored, and their bodies end at
+-- `start`. The measure is the number of kinds left. Assumes nothing.
 use native.Mathlib.Omega.{arith}
-use mathlib.Core.Path.{_≡_, _∙_}
-use Prim.Native.Nat.{_+_, _-_}
-use lib.ListN.{take, length-set}
-use Rattle.rdfs.specs.Words.{filled}
-use Rattle.table.specs.Found.{below}
-use Rattle.table.specs.Parts.{wordOf}
-use Rattle.contents.specs.Form.{form}
-use Rattle.contents.proofs.Linking.{product-small}
-use Rattle.writing.proofs.KindCount.{kind-first, kind-order, kind-found}
-use Rattle.writing.proofs.Measuring.{image-whole, image-small, measured-within}
+use mathlib.Core.Path.{sym, subst}
+use Prim.Native.Nat.{_-_, _+_}
+use lib.ListN.{length-set}
+use Rattle.contents.specs.Legible.{formOf}
+use Rattle.writing.proofs.EndsLaws.{measured-within, measured-fits}
 use Rattle.writing.proofs.PutParts.{Entered, entered-start, entered-length, entered-more, entered-done}
-use borrow.Author.Needs.{needs}
 use Rattle.writing.proofs.writer.put_contents.Statement.{statement}
 use Rattle.writing.proofs.writer.put_contents.Tie as tie
 
 abbrev Inv-loop : tie.InvT-loop
-Inv-loop t n output₀ done₀ start₀ from₀ output done start from =
-    Entered (filled t) output₀ output done start × (from ≡ below (take n t) (wordOf (done + 1) 0 0 0))
+Inv-loop form ends output₀ done₀ start₀ output done start = Entered (formOf form) ends output₀ output done start
 
 abbrev μ-loop : tie.MeasureT-loop
-μ-loop t n output₀ done₀ start₀ from₀ output done start from = form .entries - done
+μ-loop form ends output₀ done₀ start₀ output done start = formOf form .entries - done
 
 cast-output : tie.Need-cast-output Inv-loop μ-loop
-cast-output c = omega arith
+cast-output c =
+    let s = c .before .before .before in
+    omega (arith, s .pre .0 .form .edition)
 
 slice-write-output : tie.Need-slice-write-output Inv-loop μ-loop
 slice-write-output c =
-    let s = c .before .before in
-    omega (arith, s .pre .1, image-whole (s .args .t .now) (s .args .n) (s .pre .0))
+    let s = c .before .before .before in
+    omega (arith, s .pre .1)
 
 cast-output-2 : tie.Need-cast-output-2 Inv-loop μ-loop
-cast-output-2 c = omega arith
+cast-output-2 c =
+    let s = c .before .before .before .before in
+    omega (arith, s .pre .0 .form .legible .few)
 
 slice-write-output-2 : tie.Need-slice-write-output-2 Inv-loop μ-loop
 slice-write-output-2 c =
-    let s = c .before .before in
-    simp length-set (omega (arith, s .pre .1, image-whole (s .args .t .now) (s .args .n) (s .pre .0)))
+    let s = c .before .before .before .before in
+    simp length-set (omega (arith, s .pre .1))
+
+first-body-requires : tie.Need-first-body-requires Inv-loop μ-loop
+first-body-requires c κs =
+    let s = c .before .before .before .before in
+    s .pre .0 .form .legible
 
 loop-holds : tie.Need-loop-holds Inv-loop μ-loop
 loop-holds c =
-    let s = c .before .before in
-    (entered-start _ (s .args .output .now) (s .pre .1), kind-first (s .args .t .now) (s .args .n) (s .pre .0))
+    let s = c .before .before .before .before .before in
+    subst (Entered (formOf (s .args .form)) (s .args .ends .now) _ _ 0) (sym (c .first-body .ensures))
+    (entered-start (formOf (s .args .form)) (s .args .ends .now) (s .args .output .now) (omega (arith, s .pre .1)))
 
 add-k : tie.Need-add-k Inv-loop μ-loop
-add-k c = omega (arith, c .loop-test .taken)
+add-k c =
+    let s = c .before .before .before .before .before .before .before .before in
+    omega (arith, c .if1 .taken, s .pre .0 .form .legible .few)
 
 fact-size-requires : tie.Need-fact-size-requires Inv-loop μ-loop
-fact-size-requires c κs = search needs
+fact-size-requires c κs =
+    let s = c .before .before .before .before .before .before .before .before in
+    s .pre .0 .form .legible
 
-count-to-requires : tie.Need-count-to-requires Inv-loop μ-loop
-count-to-requires c κs = (c .before .before .before .before .before .pre .0, omega (arith, c .before .loop-test .taken))
-
-sub-count : tie.Need-sub-count Inv-loop μ-loop
-sub-count c =
+count-of-requires : tie.Need-count-of-requires Inv-loop μ-loop
+count-of-requires c κs =
     let at-loop = c .before .before .before in
-    let s = at-loop .before .before .before in
-    omega (
-      arith,
-      kind-order (s .args .t .now) (s .args .n) (s .pre .0) (at-loop .loop .done + 1) (at-loop .loop .from)
-          (c .count-to .result) (at-loop .loop .inv .1) (c .count-to .ensures),
+    let s = at-loop .before .before .before .before .before .before in (
+      (omega arith, omega (arith, c .before .if1 .taken, s .pre .0 .places)),
+      s .pre .0 .rising (at-loop .loop .done + 1) (omega arith) (omega (arith, c .before .if1 .taken)),
     )
 
 put-entry-requires : tie.Need-put-entry-requires Inv-loop μ-loop
 put-entry-requires c κs =
-    let at-count = c .before in
-    let at-loop = at-count .before .before .before in
-    let s = at-loop .before .before .before in
-    let long = entered-length (at-loop .loop .inv .0) (simp length-set (s .pre .1)) in
-    let found = kind-found (s .args .t .now) (s .args .n) (s .pre .0) (at-loop .loop .done + 1) (at-loop .loop .from)
-    (at-count .count-to .result) (at-loop .loop .inv .1) (at-count .count-to .ensures) in (
-      omega arith,
-      omega (arith, at-count .before .before .loop-test .taken),
-      omega (arith, simp length-set at long, s .pre .1, image-whole (s .args .t .now) (s .args .n) (s .pre .0)),
-      omega (arith, measured-within (at-loop .loop .inv .0 .measured), image-small (s .args .t .now) (s .args .n) (s .pre .0)),
-      omega (arith, found .1),
-    )
+    let at-if1 = c .before .before .before in
+    let at-loop = at-if1 .before .before in
+    let s = at-loop .before .before .before .before .before .before in
+    let long = entered-length _ _ (at-loop .loop .inv) (simp length-set (s .pre .1)) in
+    record {
+      entry = record {
+        form = s .pre .0 .form .legible;
+        some = omega arith;
+        most = omega (arith, at-if1 .if1 .taken);
+        within = omega (arith, simp length-set at long, s .pre .1);
+      };
+      start-fits = omega (arith, measured-within _ _ (at-loop .loop .inv .measured), s .pre .0 .long);
+      count-fits = omega (
+        arith,
+        c .before .count-of .ensures,
+        s .pre .0 .few (at-loop .loop .done + 1)
+            (omega (arith, at-if1 .if1 .taken)),
+      );
+    }
 
 mul-start : tie.Need-mul-start Inv-loop μ-loop
 mul-start c =
-    let at-count = c .before .before .before .before in
-    let at-loop = at-count .before .before .before in
-    let s = at-loop .before .before .before in
-    let found = kind-found (s .args .t .now) (s .args .n) (s .pre .0) (at-loop .loop .done + 1) (at-loop .loop .from)
-    (at-count .count-to .result) (at-loop .loop .inv .1) (at-count .count-to .ensures) in
+    let at-count-of = c .before .before .before .before in
+    let at-fact-size = at-count-of .before in
+    let at-if1 = at-fact-size .before in
+    let at-loop = at-if1 .before .before in
+    let s = at-loop .before .before .before .before .before .before in
     omega (
       arith,
-      product-small (at-count .before .fact-size .result) (at-count .count-to .result - at-loop .loop .from)
-          (at-count .before .fact-size .ensures .1) (omega (arith, found .1)),
+      measured-fits _ _ (at-loop .loop .inv .measured) (s .pre .0) (at-if1 .if1 .taken) _ _
+          (at-fact-size .fact-size .ensures .0) (at-count-of .count-of .ensures),
     )
 
 add-start : tie.Need-add-start Inv-loop μ-loop
 add-start c =
-    let at-count = c .before .before .before .before in
-    let at-loop = at-count .before .before .before in
-    let s = at-loop .before .before .before in
-    let found = kind-found (s .args .t .now) (s .args .n) (s .pre .0) (at-loop .loop .done + 1) (at-loop .loop .from)
-    (at-count .count-to .result) (at-loop .loop .inv .1) (at-count .count-to .ensures) in
-    let next = entered-more (at-loop .loop .inv .0) (at-count .before .before .loop-test .taken) _ _
-    (at-count .before .fact-size .ensures .0) (found .0) _ (c .before .before .put-entry .ensures) in
-    omega (arith, measured-within (next .measured), image-small (s .args .t .now) (s .args .n) (s .pre .0))
+    let at-count-of = c .before .before .before .before in
+    let at-fact-size = at-count-of .before in
+    let at-if1 = at-fact-size .before in
+    let at-loop = at-if1 .before .before in
+    let s = at-loop .before .before .before .before .before .before in
+    omega (
+      arith,
+      measured-fits _ _ (at-loop .loop .inv .measured) (s .pre .0) (at-if1 .if1 .taken) _ _
+          (at-fact-size .fact-size .ensures .0) (at-count-of .count-of .ensures),
+    )
 
 loop-less : tie.Need-loop-less Inv-loop μ-loop
-loop-less c = omega (arith, c .before .before .before .before .before .before .loop-test .taken)
+loop-less c =
+    let at-if1 = c .before .before .before .before .before .before in
+    omega (arith, at-if1 .if1 .taken)
 
 loop-again : tie.Need-loop-again Inv-loop μ-loop
 loop-again c =
-    let at-count = c .before .before .before .before in
-    let at-loop = at-count .before .before .before in
-    let s = at-loop .before .before .before in
-    let found = kind-found (s .args .t .now) (s .args .n) (s .pre .0) (at-loop .loop .done + 1) (at-loop .loop .from)
-    (at-count .count-to .result) (at-loop .loop .inv .1) (at-count .count-to .ensures) in (
-      entered-more (at-loop .loop .inv .0) (at-count .before .before .loop-test .taken) _ _
-          (at-count .before .fact-size .ensures .0) (found .0) _ (c .before .before .put-entry .ensures),
-      at-count .count-to .ensures,
-    )
+    let at-put-entry = c .before .before in
+    let at-count-of = at-put-entry .before .before in
+    let at-fact-size = at-count-of .before in
+    let at-if1 = at-fact-size .before in
+    let at-loop = at-if1 .before .before in
+    entered-more _ _ (at-loop .loop .inv) (at-if1 .if1 .taken) _ _ (at-fact-size .fact-size .ensures .0)
+    (at-count-of .count-of .ensures) _ (at-put-entry .put-entry .ensures)
 
 same-length : tie.Need-same-length Inv-loop μ-loop
-same-length c = entered-length (c .before .loop .inv .0) (simp length-set (c .before .before .before .before .pre .1))
-    ∙ simp length-set
+same-length c =
+    let at-loop = c .before .before in
+    let s = at-loop .before .before .before .before .before .before in
+    simp length-set at (entered-length _ _ (at-loop .loop .inv) (simp length-set (s .pre .1)))
 
 returns : tie.Need-returns Inv-loop μ-loop
 returns c =
-    let s = c .before .before .before .before in
-    entered-done (filled (s .args .t .now)) (s .args .output .now) (c .before .loop .inv .0) (c .loop-test .left)
+    let at-loop = c .before .before in
+    let s = at-loop .before .before .before .before .before .before in
+    entered-done _ _ (s .args .output .now) (at-loop .loop .inv) (c .if1 .left)
 
 pub put-contents-spec : {M : Type 1} → statement M
 put-contents-spec =
@@ -136,11 +150,11 @@ put-contents-spec =
     slice-write-output
     cast-output-2
     slice-write-output-2
+    first-body-requires
     loop-holds
     add-k
     fact-size-requires
-    count-to-requires
-    sub-count
+    count-of-requires
     put-entry-requires
     mul-start
     add-start

@@ -1,105 +1,91 @@
--- `writer::put_entry`: six stores. Assumes nothing.
+-- `writer::put_entry`: the kind and the bytes per fact, then two fields. Assumes nothing.
 use native.Mathlib.Omega.{arith}
-use mathlib.Core.Path.{ap, _∙_}
-use mathlib.Core.List.{List, [], _∷_}
-use Prim.Native.Nat.{ℕ, _+_, _/_, _%_}
-use lib.ListN.{length, set, length-set}
-use Rattle.contents.specs.Form.{form, entryAt}
-use Rattle.writing.specs.Writing.{over}
-use Rattle.writing.proofs.Overlaid.{six-stores}
-use borrow.Author.Needs.{needs}
+use lib.ListN.{length-set}
+use Rattle.contents.specs.Legible.{formOf}
+use Rattle.contents.proofs.FormBounds.{entry-inside}
+use Rattle.writing.proofs.PutEntry.{entry-put}
 use Rattle.writing.proofs.writer.put_entry.Statement.{statement}
 use Rattle.writing.proofs.writer.put_entry.Tie as tie
 
 entry-at-requires : tie.Need-entry-at-requires
-entry-at-requires c κs = search needs
+entry-at-requires c κs =
+    let s = c .before in
+    (s .pre .entry .form, (s .pre .entry .some, s .pre .entry .most))
 
 fact-size-requires : tie.Need-fact-size-requires
-fact-size-requires c κs = search needs
+fact-size-requires c κs =
+    let s = c .before .before in
+    s .pre .entry .form
 
 cast-output : tie.Need-cast-output
-cast-output c = search needs
+cast-output c =
+    let s = c .before .before .before in
+    omega (arith, s .pre .entry .most, s .pre .entry .form .few)
 
 slice-write-output : tie.Need-slice-write-output
 slice-write-output c =
-    omega (arith, c .before .entry-at .ensures, c .before .before .before .pre .1, c .before .before .before .pre .2)
+    let s = c .before .before .before in
+    omega (arith, entry-inside (s .pre .entry), c .before .entry-at .ensures)
 
 cast-output-2 : tie.Need-cast-output-2
-cast-output-2 c = search needs
+cast-output-2 c = omega (arith, c .fact-size .ensures .1)
 
 add-output : tie.Need-add-output
-add-output c = search needs
+add-output c =
+    let s = c .before .before .before in
+    omega (arith, entry-inside (s .pre .entry), c .before .entry-at .ensures)
 
 slice-write-output-2 : tie.Need-slice-write-output-2
-slice-write-output-2 c = simp length-set (omega (
-  arith,
-  c .before .entry-at .ensures,
-  c .before .before .before .pre .1,
-  c .before .before .before .pre .2,
-))
+slice-write-output-2 c =
+    let s = c .before .before .before in
+    simp length-set (omega (arith, entry-inside (s .pre .entry), c .before .entry-at .ensures))
 
-add-put-number : tie.Need-add-put-number
-add-put-number c = search needs
+add-first : tie.Need-add-first
+add-first c =
+    let s = c .before .before .before in
+    omega (arith, entry-inside (s .pre .entry), c .before .entry-at .ensures)
 
-put-number-requires : tie.Need-put-number-requires
-put-number-requires c κs = (
-  simp length-set (omega (
-    arith,
-    c .before .before .entry-at .ensures,
-    c .before .before .before .before .pre .1,
-    c .before .before .before .before .pre .2,
-  )),
-  c .before .before .before .before .pre .3,
-)
+add-second : tie.Need-add-second
+add-second c =
+    let s = c .before .before .before in
+    omega (arith, entry-inside (s .pre .entry), c .before .entry-at .ensures)
 
-add-put-number-2 : tie.Need-add-put-number-2
-add-put-number-2 c = search needs
+put-bytes-requires : tie.Need-put-bytes-requires
+put-bytes-requires c κs =
+    let at-entry-at = c .before .before in
+    let s = at-entry-at .before .before in
+    (simp length-set (omega (arith, entry-inside (s .pre .entry), at-entry-at .entry-at .ensures)), s .pre .start-fits)
 
-add-put-number-3 : tie.Need-add-put-number-3
-add-put-number-3 c = search needs
-
-put-number-requires-2 : tie.Need-put-number-requires-2
-put-number-requires-2 c κs = (
-  omega (
-    arith,
-    c .before .before .before .before .before .before .entry-at .ensures,
-    c .before .before .before .before .before .before .before .before .pre .1,
-    c .before .before .before .before .before .before .before .before .pre .2,
-    simp length-set at (ap length (c .before .before .before .put-number .ensures)),
-  ),
-  c .before .before .before .before .before .before .before .before .pre .4,
-)
+put-bytes-requires-2 : tie.Need-put-bytes-requires-2
+put-bytes-requires-2 c κs =
+    let at-put-bytes = c .before .before .before in
+    let at-entry-at = at-put-bytes .before .before .before in
+    let s = at-entry-at .before .before in (
+      omega (
+        arith,
+        entry-inside (s .pre .entry),
+        at-entry-at .entry-at .ensures,
+        simp length-set at (at-put-bytes .put-bytes .kept .0),
+      ),
+      s .pre .count-fits,
+    )
 
 same-length : tie.Need-same-length
-same-length c = omega (
-  arith,
-  simp length-set at (ap length (c .before .before .put-number2 .ensures)),
-  simp length-set at (ap length (c .before .before .before .before .before .before .put-number .ensures)),
-)
+same-length c =
+    let at-put-bytes2 = c .before .before in
+    let at-put-bytes = at-put-bytes2 .before .before .before .before in
+    omega (arith, at-put-bytes2 .put-bytes2 .kept .0, simp length-set at (at-put-bytes .put-bytes .kept .0))
 
 returns : tie.Need-returns
 returns c =
-    let out : List ℕ =
-    c .before .before .before .before .before .before .before .before .before .before .before .args .output .now in
-    let k : ℕ = c .before .before .before .before .before .before .before .before .before .before .before .args .k in
-    let at : ℕ = c .before .before .before .before .before .before .before .before .before .entry-at .result in
-    let size : ℕ = c .before .before .before .before .before .before .before .before .fact-size .result in
-    let s : ℕ = c .before .before .before .before .before .before .before .before .before .before .before .args .start in
-    let n : ℕ = c .before .before .before .before .before .before .before .before .before .before .before .args .count in
-    let fields : List ℕ = (s % 256) ∷ (s / 256) ∷ (n % 256) ∷ (n / 256) ∷ [] in
-    c .before .before .put-number2 .ensures ∙ (ap (λ l. set (set l (at + 2 + 2) (n % 256)) (at + 2 + 2 + 1) (n / 256))
-    (c .before .before .before .before .before .before .put-number .ensures)
-    ∙ (six-stores out at k size (s % 256) (s / 256) (n % 256) (n / 256)
-    (omega (
-      arith,
-      c .before .before .before .before .before .before .before .before .before .entry-at .ensures,
-      c .before .before .before .before .before .before .before .before .before .before .before .pre .1,
-      c .before .before .before .before .before .before .before .before .before .before .before .pre .2,
-    ))
-    ∙ (ap (λ i. over out i (k ∷ size ∷ fields))
-    (c .before .before .before .before .before .before .before .before .before .entry-at .ensures)
-    ∙ ap (λ z. over out (entryAt form k) (k ∷ z ∷ fields))
-    (c .before .before .before .before .before .before .before .before .fact-size .ensures .0))))
+    let at-put-bytes2 = c .before .before in
+    let at-put-bytes = at-put-bytes2 .before .before .before .before in
+    let at-fact-size = at-put-bytes .before .before in
+    let at-entry-at = at-fact-size .before in
+    let s = at-entry-at .before .before in
+    entry-put (formOf (s .args .form)) (s .args .output .now) (s .args .k) (s .args .start) (s .args .count)
+    (entry-inside (s .pre .entry)) _ (at-entry-at .entry-at .ensures) _ (at-fact-size .fact-size .ensures .0) _ _
+    (at-put-bytes .put-bytes .ensures) (at-put-bytes2 .put-bytes2 .ensures)
 
 pub put-entry-spec : {M : Type 1} → statement M
 put-entry-spec =
@@ -112,10 +98,9 @@ put-entry-spec =
     cast-output-2
     add-output
     slice-write-output-2
-    add-put-number
-    put-number-requires
-    add-put-number-2
-    add-put-number-3
-    put-number-requires-2
+    add-first
+    add-second
+    put-bytes-requires
+    put-bytes-requires-2
     same-length
     returns)

@@ -1,8 +1,16 @@
--- `writer::put_fact`: one, two or three stores. Assumes nothing.
+-- `writer::put_fact`: one, two or three ids. Assumes nothing.
 use native.Mathlib.Omega.{arith}
-use mathlib.Core.Path.{sym, _∙_}
-use lib.ListN.{length-set}
-use Rattle.writing.proofs.PutFact.{word-kind, fact-size-is, put-one, put-two, put-three}
+use Rattle.writing.proofs.PutFact.{
+  first-small,
+  second-small,
+  third-small,
+  one-room,
+  two-room,
+  three-room,
+  put-one,
+  put-two,
+  put-three,
+}
 use borrow.Author.Needs.{needs}
 use Rattle.writing.proofs.writer.put_fact.Statement.{statement}
 use Rattle.writing.proofs.writer.put_fact.Tie as tie
@@ -10,126 +18,139 @@ use Rattle.writing.proofs.writer.put_fact.Tie as tie
 first-of-requires : tie.Need-first-of-requires
 first-of-requires c κs = search needs
 
-cast-output : tie.Need-cast-output
-cast-output c = search needs
+cast-a : tie.Need-cast-a
+cast-a c = search needs
 
-slice-write-output : tie.Need-slice-write-output
-slice-write-output c =
-    let s = c .before .before in
-    omega (arith, fact-size-is (s .args .w) (s .pre .0), word-kind (s .args .w) (s .pre .0) .some, s .pre .1)
+put-bytes-requires : tie.Need-put-bytes-requires
+put-bytes-requires c κs =
+    let s = c .before .before .before in
+    (one-room (s .pre), omega (arith, c .before .first-of .ensures, first-small (s .pre)))
 
-add-result : tie.Need-add-result
-add-result c = search needs
+add-second : tie.Need-add-second
+add-second c =
+    let s = c .before .before .before .before .before .before in
+    omega (arith, one-room (s .pre))
 
 same-length : tie.Need-same-length
 same-length c = search needs
 
 returns : tie.Need-returns
 returns c =
-    let s = c .before .before .before in
-    put-one (s .args .w) (s .pre .0) (s .args .output .now) (s .args .at) (s .pre .1) (sym (s .pre .2) ∙ c .if1 .taken)
-    (c .before .first-of .result) (c .before .first-of .ensures)
+    let at-put-bytes = c .before .before .before in
+    let at-first-of = at-put-bytes .before .before in
+    let s = at-first-of .before .before in
+    put-one (s .pre) (at-first-of .first-of .result) (at-first-of .first-of .ensures) _ (at-put-bytes .put-bytes .ensures)
+    (c .if1 .taken)
 
 second-of-requires : tie.Need-second-of-requires
 second-of-requires c κs = search needs
 
-cast-output-2 : tie.Need-cast-output-2
-cast-output-2 c = search needs
+cast-b : tie.Need-cast-b
+cast-b c = search needs
 
-add-output : tie.Need-add-output
-add-output c = search needs
+put-bytes-requires-2 : tie.Need-put-bytes-requires-2
+put-bytes-requires-2 c κs =
+    let at-if1 = c .before .before in
+    let at-put-bytes = at-if1 .before .before .before in
+    let s = at-put-bytes .before .before .before .before in (
+      omega (arith, two-room (s .pre) (at-if1 .if1 .left), at-put-bytes .put-bytes .kept .0),
+      omega (arith, c .before .second-of .ensures, second-small (s .pre)),
+    )
 
-slice-write-output-2 : tie.Need-slice-write-output-2
-slice-write-output-2 c =
-    let s = c .before .before .before .before in
-    simp length-set (omega (
-      arith,
-      s .pre .2,
-      c .before .if1 .left,
-      fact-size-is (s .args .w) (s .pre .0),
-      word-kind (s .args .w) (s .pre .0) .some,
-      s .pre .1,
-    ))
-
-add-result-2 : tie.Need-add-result-2
-add-result-2 c = search needs
+add-third : tie.Need-add-third
+add-third c =
+    let at-if1 = c .before .before .before .before .before in
+    let s = at-if1 .before .before .before .before .before .before .before in
+    omega (arith, two-room (s .pre) (at-if1 .if1 .left))
 
 same-length-2 : tie.Need-same-length-2
-same-length-2 c = search needs
+same-length-2 c =
+    let at-put-bytes2 = c .before .before .before in
+    let at-put-bytes = at-put-bytes2 .before .before .before .before .before .before in
+    omega (arith, at-put-bytes .put-bytes .kept .0, at-put-bytes2 .put-bytes2 .kept .0)
 
 returns-2 : tie.Need-returns-2
 returns-2 c =
-    let at-first = c .before .before .before in
-    let s = at-first .before .before in
-    put-two (s .args .w) (s .pre .0) (s .args .output .now) (s .args .at) (s .pre .1) (sym (s .pre .2) ∙ c .if2 .taken)
-    (at-first .first-of .result) (c .before .second-of .result) (at-first .first-of .ensures) (c .before .second-of .ensures)
+    let at-put-bytes2 = c .before .before .before in
+    let at-second-of = at-put-bytes2 .before .before in
+    let at-put-bytes = at-second-of .before .before .before .before in
+    let at-first-of = at-put-bytes .before .before in
+    let s = at-first-of .before .before in
+    put-two (s .pre) (at-first-of .first-of .result) (at-first-of .first-of .ensures) _ (at-put-bytes .put-bytes .ensures)
+    (at-second-of .second-of .result) (at-second-of .second-of .ensures) _ (at-put-bytes2 .put-bytes2 .ensures)
+    (c .if2 .taken)
 
 third-of-requires : tie.Need-third-of-requires
 third-of-requires c κs = search needs
 
-cast-output-3 : tie.Need-cast-output-3
-cast-output-3 c = search needs
+cast-c : tie.Need-cast-c
+cast-c c = search needs
 
-add-output-2 : tie.Need-add-output-2
-add-output-2 c = search needs
+put-bytes-requires-3 : tie.Need-put-bytes-requires-3
+put-bytes-requires-3 c κs =
+    let at-if2 = c .before .before in
+    let at-put-bytes2 = at-if2 .before .before .before in
+    let at-if1 = at-put-bytes2 .before .before .before in
+    let at-put-bytes = at-if1 .before .before .before in
+    let s = at-put-bytes .before .before .before .before in (
+      omega (
+        arith,
+        three-room (s .pre) (at-if1 .if1 .left) (at-if2 .if2 .left),
+        at-put-bytes .put-bytes .kept .0,
+        at-put-bytes2 .put-bytes2 .kept .0,
+      ),
+      omega (arith, c .before .third-of .ensures, third-small (s .pre)),
+    )
 
-slice-write-output-3 : tie.Need-slice-write-output-3
-slice-write-output-3 c =
-    let s = c .before .before .before .before .before .before in
-    simp length-set (omega (
-      arith,
-      s .pre .2,
-      c .before .before .before .if1 .left,
-      c .before .if2 .left,
-      fact-size-is (s .args .w) (s .pre .0),
-      word-kind (s .args .w) (s .pre .0) .some,
-      s .pre .1,
-    ))
-
-add-result-3 : tie.Need-add-result-3
-add-result-3 c = search needs
+add-result : tie.Need-add-result
+add-result c =
+    let at-if2 = c .before .before .before .before .before in
+    let at-if1 = at-if2 .before .before .before .before .before .before in
+    let s = at-if1 .before .before .before .before .before .before .before in
+    omega (arith, three-room (s .pre) (at-if1 .if1 .left) (at-if2 .if2 .left))
 
 same-length-3 : tie.Need-same-length-3
-same-length-3 c = search needs
+same-length-3 c =
+    let at-put-bytes3 = c .before .before in
+    let at-put-bytes2 = at-put-bytes3 .before .before .before .before .before .before in
+    let at-put-bytes = at-put-bytes2 .before .before .before .before .before .before in
+    omega (arith, at-put-bytes .put-bytes .kept .0, at-put-bytes2 .put-bytes2 .kept .0, at-put-bytes3 .put-bytes3 .kept .0)
 
 returns-3 : tie.Need-returns-3
 returns-3 c =
-    let at-second = c .before .before in
-    let at-first = at-second .before .before in
-    let s = at-first .before .before in
-    let is = word-kind (s .args .w) (s .pre .0) in
-    put-three (s .args .w) (s .pre .0) (s .args .output .now) (s .args .at) (s .pre .1) (omega (
-      arith,
-      s .pre .2,
-      at-second .before .if1 .left,
-      c .before .if2 .left,
-      is .some,
-      is .few,
-    ))
-    (at-first .first-of .result) (at-second .second-of .result) (c .third-of .result) (at-first .first-of .ensures)
-    (at-second .second-of .ensures) (c .third-of .ensures)
+    let at-put-bytes3 = c .before .before in
+    let at-third-of = at-put-bytes3 .before .before in
+    let at-if2 = at-third-of .before in
+    let at-put-bytes2 = at-if2 .before .before .before in
+    let at-second-of = at-put-bytes2 .before .before in
+    let at-if1 = at-second-of .before in
+    let at-put-bytes = at-if1 .before .before .before in
+    let at-first-of = at-put-bytes .before .before in
+    let s = at-first-of .before .before in
+    put-three (s .pre) (at-first-of .first-of .result) (at-first-of .first-of .ensures) _ (at-put-bytes .put-bytes .ensures)
+    (at-second-of .second-of .result) (at-second-of .second-of .ensures) _ (at-put-bytes2 .put-bytes2 .ensures)
+    (at-if1 .if1 .left) (at-if2 .if2 .left) (at-third-of .third-of .result) (at-third-of .third-of .ensures) _
+    (at-put-bytes3 .put-bytes3 .ensures)
 
 pub put-fact-spec : {M : Type 1} → statement M
 put-fact-spec =
     tie.close
     (tie.spec
     first-of-requires
-    cast-output
-    slice-write-output
-    add-result
+    cast-a
+    put-bytes-requires
+    add-second
     same-length
     returns
     second-of-requires
-    cast-output-2
-    add-output
-    slice-write-output-2
-    add-result-2
+    cast-b
+    put-bytes-requires-2
+    add-third
     same-length-2
     returns-2
     third-of-requires
-    cast-output-3
-    add-output-2
-    slice-write-output-3
-    add-result-3
+    cast-c
+    put-bytes-requires-3
+    add-result
     same-length-3
     returns-3)

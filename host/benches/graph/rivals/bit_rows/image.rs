@@ -20,7 +20,12 @@ pub fn load(image: &[u8]) -> Result<Loaded, u8> {
         let is_good = match width(kind) {
             1 => load_body(&mut loaded, kind, body.iter().map(|a| [*a, 0, 0]), is_short),
             2 => load_body(&mut loaded, kind, body.chunks_exact(2).map(|ids| [ids[0], ids[1], 0]), is_short),
-            _ => load_body(&mut loaded, kind, body.chunks_exact(3).map(|ids| [ids[0], ids[1], ids[2]]), is_short),
+            _ => load_body(
+                &mut loaded,
+                kind,
+                body.chunks_exact(3).map(|ids| [ids[0], ids[1], ids[2]]),
+                is_short,
+            ),
         };
         if !is_good {
             return Err(12);
@@ -35,7 +40,12 @@ pub fn load(image: &[u8]) -> Result<Loaded, u8> {
 
 /// Whether the body is facts, ascending; if so they are put in.
 #[inline(always)]
-fn load_body(loaded: &mut Loaded, kind: u8, facts: impl Iterator<Item = [u8; 3]> + Clone, puts: bool) -> bool {
+fn load_body(
+    loaded: &mut Loaded,
+    kind: u8,
+    facts: impl Iterator<Item = [u8; 3]> + Clone,
+    puts: bool,
+) -> bool {
     let mut is_good = true;
     let mut least = 0;
     for [a, b, c] in facts.clone() {
@@ -92,8 +102,8 @@ fn push_rows(rows: &Rows, of: usize, firsts: Set, bodies: &mut Vec<u8>) {
     }
 }
 
-/// All values, by subject, by value and then by property: the rows of a subject are turned into the properties of each
-/// of its values.
+/// All values, by subject, by value and then by property: the rows of a subject are turned into the
+/// properties of each of its values.
 fn push_values(rows: &Rows, bodies: &mut Vec<u8>) {
     let mut properties = [Set::EMPTY; 256];
     let valued = rows.sort(PROPERTY);

@@ -1,5 +1,5 @@
-//! The table as sets of 256 bits: the ids of each sort, the classes over and under a class, the members of a class, the
-//! values of a subject for a property. A side effect is a join of rows.
+//! The table as sets of 256 bits: the ids of each sort, the classes over and under a class, the members of a
+//! class, the values of a subject for a property. A side effect is a join of rows.
 
 mod check;
 mod deletion;
@@ -9,7 +9,7 @@ mod loaded;
 mod rows;
 mod set;
 
-use super::clash::{clashes, uses_unknown, Lookups};
+use super::clash::{clashes, uses_unknown_property, Lookups};
 use super::fact::*;
 use super::form::ticket_of;
 use super::{Answer, Rival};
@@ -93,7 +93,7 @@ impl Rival for BitRows {
         if is_there {
             return Answer::accepted(0, 0);
         }
-        if uses_unknown(self, &asked) {
+        if uses_unknown_property(self, &asked) {
             return Answer::refused(9);
         }
         if clashes(self, &asked) {

@@ -24,7 +24,8 @@ const NONE: u16 = u16::MAX;
 
 pub struct Rows {
     rows: Vec<Set>,
-    /// For each property its block, where it has one: the place of each subject's row of values, after `NO_VALUES`.
+    /// For each property its block, where it has one: the place of each subject's row of values, after
+    /// `NO_VALUES`.
     blocks: Vec<[u16; 256]>,
     block_of: [u16; 256],
     /// Valid for properties.

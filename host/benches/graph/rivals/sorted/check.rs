@@ -65,7 +65,8 @@ pub fn is_consistent(words: &[u32]) -> bool {
 fn is_order(links: &[u32], kind: u8) -> bool {
     runs_of(links, 16).all(|above| {
         let x = a_of(above[0]);
-        let carried = |y: u8| of_first(links, kind, y).iter().all(|link| has(above, word(kind, x, b_of(*link), 0)));
+        let carried =
+            |y: u8| of_first(links, kind, y).iter().all(|link| has(above, word(kind, x, b_of(*link), 0)));
         above.iter().all(|link| b_of(*link) != x && carried(b_of(*link)))
     })
 }
@@ -110,7 +111,10 @@ impl Runs<'_> {
     fn links_have_their_ends(&self) -> bool {
         let class_or_mark = |y: u8| y == MARK || self.is_class(y);
         self.subclasses.iter().all(|link| self.is_class(a_of(*link)) && self.is_class(b_of(*link)))
-            && self.subproperties.iter().all(|link| self.is_property(a_of(*link)) && self.is_property(b_of(*link)))
+            && self
+                .subproperties
+                .iter()
+                .all(|link| self.is_property(a_of(*link)) && self.is_property(b_of(*link)))
             && self.domains.iter().all(|end| self.is_property(a_of(*end)) && self.is_class(b_of(*end)))
             && self.ranges.iter().all(|end| self.is_property(a_of(*end)) && class_or_mark(b_of(*end)))
             && self.members.iter().all(|held| self.is_individual(a_of(*held)) && self.is_class(b_of(*held)))
@@ -132,8 +136,9 @@ impl Runs<'_> {
 
     /// Rules 15, 16 and 17.
     fn properties_have_one_of_each(&self) -> bool {
-        let has_one =
-            |p: u8| of_first(self.domains, DOMAIN, p).len() == 1 && of_first(self.ranges, RANGE, p).len() == 1;
+        let has_one = |p: u8| {
+            of_first(self.domains, DOMAIN, p).len() == 1 && of_first(self.ranges, RANGE, p).len() == 1
+        };
         self.properties.iter().all(|known| has_one(a_of(*known)))
     }
 

@@ -5,7 +5,7 @@ mod deletion;
 mod image;
 mod insertion;
 
-use super::clash::{clashes, uses_unknown, Lookups};
+use super::clash::{clashes, uses_unknown_property, Lookups};
 use super::fact::*;
 use super::form::ticket_of;
 use super::{Answer, Rival};
@@ -118,7 +118,7 @@ impl Rival for Sorted {
         if is_there {
             return Answer::accepted(0, 0);
         }
-        if uses_unknown(self, &asked) {
+        if uses_unknown_property(self, &asked) {
             return Answer::refused(9);
         }
         if clashes(self, &asked) {

@@ -1,0 +1,63 @@
+-- What is proved of the host's call: which refusals its steps can give, that a refusal leaves all as it was, and that the output
+-- reads back. All that is known of its number r and the bytes v that it leaves is its contract, `HostPromise`. Assumes nothing.
+use Prim.Native.Nat.{ℕ, _≤_}
+use mathlib.Core.Path.{_≡_, refl, sym, ap, _∙_}
+use mathlib.Core.Bool.{false, _||_}
+use mathlib.Core.List.{List}
+use native.Mathlib.Omega.{arith}
+use lib.Dec.{ltb, leb}
+use lib.ListN.{length, take}
+use Rattle.rdfs.specs.Numbers.{product}
+use Rattle.rdfs.specs.Words.{filled}
+use Rattle.rdfs.specs.Refusals.{orElse, badSize, inconsistent, tableRefusal}
+use Rattle.rdfs.specs.Register.{Table}
+use Rattle.rdfs.proofs.tickets.Steps.{table-passes}
+use Rattle.table.proofs.Filled.{filled-within}
+use Rattle.contents.specs.ImageForm.{form}
+use Rattle.contents.specs.Reading.{wordsOf}
+use Rattle.writing.specs.WritePromise.{tableImage, writeAnswer}
+use Rattle.reading.specs.ReadPromise.{imageRefusal, readAnswer, readWords, ReadPromise}
+use Rattle.image.proofs.ImageTheorems.{image-reads-back, table-reads-back}
+use Rattle.vimelosa.specs.Host.{answerIn, addedIn, removedIn, lengthIn, room, applied, hostAnswer, HostPromise}
+use Rattle.vimelosa.proofs.HostWays.{applied-table}
+use Rattle.vimelosa.proofs.Saved.{accepted, left-length, saved-image, refused}
+
+-- Reading: 12, 11 or 3. Refusal 1 cannot come, for the room is the call's own.
+pub read-refusals : (image : List ℕ) → readAnswer room image ≡ imageRefusal image (product .most)
+    (orElse (inconsistent product (wordsOf product form image)) 3 0)
+read-refusals image = refl
+
+-- Writing: 13 only, exactly if the output is shorter than the image of what the ticket left.
+pub write-refusals : (image ticket output : List ℕ) → readAnswer room image ≡ 0
+    → let left : List ℕ = applied image ticket .table in
+    writeAnswer left output ≡ orElse (ltb (length output) (length (tableImage left))) 13 0
+write-refusals image ticket output e =
+    let left : List ℕ = applied image ticket .table in
+    table-passes product left (applied-table image ticket e) (orElse (ltb (length output) (length (tableImage left))) 13 0)
+
+module _ (image ticket output : List ℕ) (r : ℕ) (v : List ℕ) (p : HostPromise image ticket output r v) where
+  -- Demand 1: refused, every byte of the output is as it was, and the facts added, the facts removed and the length are 0.
+  pub host-refusal-keeps : (answerIn r ≡ 0 → ⊥) → (v ≡ output) × (addedIn r ≡ 0) × (removedIn r ≡ 0) × (lengthIn r ≡ 0)
+  host-refusal-keeps h =
+      let k = refused image ticket output (λ e. h (ap answerIn (p .0) ∙ e)) in
+      (p .1 ∙ k .0, ap addedIn (p .0) ∙ k .1, ap removedIn (p .0) ∙ k .2, ap lengthIn (p .0) ∙ k .3)
+
+  -- Demand 2: the output of an accepted call, cut to the length answered, is read into any table u of 2,048 words as the words
+  -- that the ticket left: n is what `read` answers, and w the words that it leaves.
+  pub host-output-reads-back : answerIn r ≡ 0 → (u : List ℕ) → length u ≡ product .most
+      → (n : ℕ) (w : List ℕ) → ReadPromise u (take (lengthIn r) v) n w → (n ≡ 0) × (w ≡ applied image ticket .table)
+  host-output-reads-back e u h n w q =
+      let left : List ℕ = applied image ticket .table in
+      let a = accepted image ticket output (ap answerIn (sym (p .0)) ∙ e) in
+      let table : Table product left = applied-table image ticket (a .read) in
+      let passes : 0 ≡ tableRefusal product left 0 = sym (table-passes product left table 0) in
+      let size : badSize product u ≡ false = ap (λ m. leb m 0 || ltb (product .most) m) h in
+      let long : length left ≡ product .most = left-length image ticket output in
+      let fits : length (filled left) ≤ length u = omega (arith, h, filled-within product left (table .laid), long) in
+      let number : ℕ = hostAnswer image ticket output in
+      let cut : take (lengthIn r) v ≡ take (lengthIn number) v = ap (λ m. take (lengthIn m) v) (p .0) in
+      let same : take (lengthIn r) v ≡ tableImage left =
+      cut ∙ (ap (take (lengthIn number)) (p .1) ∙ saved-image image ticket output a) in (
+        q .0 ∙ (ap (readAnswer u) same ∙ sym (image-reads-back left u passes size fits .0)),
+        q .1 ∙ (ap (readWords u) same ∙ sym (table-reads-back left u passes size (long ∙ sym h))),
+      )

@@ -1,0 +1,119 @@
+-- The ways through the host's call: refused by reading, by the ticket, by writing, and done. Assumes nothing.
+use Prim.Native.Nat.{ℕ}
+use mathlib.Core.Path.{_≡_, refl, sym, ap, subst, _∙_}
+use mathlib.Core.Bool.{cond}
+use mathlib.Core.List.{List}
+use lib.Dec.{eqb}
+use borrow.Author.Tests.{eq-eqb, ne-eqb}
+use Rattle.rdfs.specs.Numbers.{product}
+use Rattle.rdfs.specs.Register.{Answer, step, Table}
+use Rattle.rdfs.proofs.tickets.Steps.{checked-table}
+use Rattle.rdfs.proofs.register.AfterEach.{after}
+use Rattle.rdfs.proofs.Theorems.{product-sound}
+use Rattle.writing.specs.WritePromise.{writeAnswer, writeLength, writeBytes}
+use Rattle.reading.specs.ReadPromise.{readAnswer, readWords}
+use Rattle.image.proofs.ImageTheorems.{read-writes}
+use Rattle.ticket.specs.Answered.{Answered}
+use Rattle.ticket.specs.declared.answer.Applied.{Applied}
+use Rattle.vimelosa.specs.Host.{packed, refusedElse, room, applied, hostAnswer, hostOutput, HostPromise}
+
+-- A refusal is the answer, and for 0 what comes after; the bytes likewise.
+pub refused-is : (n rest : ℕ) → (n ≡ 0 → ⊥) → refusedElse n rest ≡ packed n 0 0 0
+refused-is n rest h = ap (λ b. cond b rest (packed n 0 0 0)) (ne-eqb n 0 h)
+
+pub passed-is : (n rest : ℕ) → n ≡ 0 → refusedElse n rest ≡ rest
+passed-is n rest e = ap (λ b. cond b rest (packed n 0 0 0)) (eq-eqb n 0 e)
+
+pub refused-keeps : (n : ℕ) (new old : List ℕ) → (n ≡ 0 → ⊥) → cond (eqb n 0) new old ≡ old
+refused-keeps n new old h = ap (λ b. cond b new old) (ne-eqb n 0 h)
+
+pub passed-leaves : (n : ℕ) (new old : List ℕ) → n ≡ 0 → cond (eqb n 0) new old ≡ new
+passed-leaves n new old e = ap (λ b. cond b new old) (eq-eqb n 0 e)
+
+-- Words that were read are a consistent table.
+pub read-table : (image : List ℕ) (n : ℕ) {w : List ℕ} → n ≡ readAnswer room image → n ≡ 0 → w ≡ readWords room image
+    → Table product w
+read-table image n e z h =
+    subst (Table product) (sym h) (checked-table product (readWords room image) (sym (read-writes room image (sym z ∙ e) .1)))
+
+-- So are those that a ticket leaves.
+pub applied-table : (image ticket : List ℕ) → readAnswer room image ≡ 0 → Table product (applied image ticket .table)
+unfolding applied
+applied-table image ticket e =
+    after product product-sound (readWords room image) ticket (read-table image 0 (sym e) refl refl) .rules
+
+pub left-table : {w v : List ℕ} (ticket : List ℕ) → Table product w → (a : Applied) → Answered a v (step product w ticket)
+    → Table product v
+left-table {w} ticket t a did = subst (Table product) (sym (did .words)) (after product product-sound w ticket t .rules)
+
+module _ (image ticket output : List ℕ) where
+  abbrev s : Answer
+  s = applied image ticket
+
+  -- The refusals after reading, and the end.
+  abbrev later : ℕ
+  later = refusedElse (writeAnswer (s .table) output) (packed 0 (s .added) (s .removed) (writeLength (s .table) output))
+
+  pub way-unread : (n r : ℕ) → n ≡ readAnswer room image → (n ≡ 0 → ⊥) → r ≡ packed n 0 0 0
+      → HostPromise image ticket output r output
+  unfolding hostAnswer hostOutput
+  way-unread n r e h p =
+      let no : readAnswer room image ≡ 0 → ⊥ = λ z. h (e ∙ z) in (
+        p ∙ (ap (λ m. packed m 0 0 0) e ∙ sym (refused-is (readAnswer room image) _ no)),
+        sym (refused-keeps (readAnswer room image) _ output no),
+      )
+
+  -- Read; then the ticket's answer a, with the words v.
+  module _ (read : readAnswer room image ≡ 0) {w v : List ℕ} (from : w ≡ readWords room image) (a : Applied)
+      (did : Answered a v (step product w ticket)) where
+    same : Answered a v s
+    unfolding applied
+    same = subst (λ x. Answered a v (step product x ticket)) from did
+
+    read-answer : hostAnswer image ticket output ≡ refusedElse (s .number) later
+    unfolding hostAnswer
+    read-answer = passed-is (readAnswer room image) (refusedElse (s .number) later) read
+
+    read-output : hostOutput image ticket output ≡ cond (eqb (s .number) 0) (writeBytes (s .table) output) output
+    unfolding hostOutput
+    read-output = passed-leaves (readAnswer room image) (cond (eqb (s .number) 0) (writeBytes (s .table) output) output) output
+        read
+
+    pub way-unapplied : (r : ℕ) → (a .answer ≡ 0 → ⊥) → r ≡ packed (a .answer) 0 0 0 → HostPromise image ticket output r output
+    way-unapplied r h p =
+        let no : s .number ≡ 0 → ⊥ = λ z. h (same .number ∙ z) in (
+          p ∙ (ap (λ m. packed m 0 0 0) (same .number) ∙ (sym (refused-is (s .number) later no) ∙ sym read-answer)),
+          sym (refused-keeps (s .number) (writeBytes (s .table) output) output no) ∙ sym read-output,
+        )
+
+    -- Accepted; then writing's answer n, the length l and the bytes u.
+    module _ (z : a .answer ≡ 0) (n l : ℕ) (u : List ℕ) (en : n ≡ writeAnswer v output) (el : l ≡ writeLength v output)
+        (eu : u ≡ writeBytes v output) where
+      accepted : s .number ≡ 0
+      accepted = sym (same .number) ∙ z
+
+      applied-answer : hostAnswer image ticket output ≡ later
+      applied-answer = read-answer ∙ passed-is (s .number) later accepted
+
+      left : u ≡ hostOutput image ticket output
+      left = eu ∙ (ap (λ x. writeBytes x output) (same .words)
+          ∙ (sym (passed-leaves (s .number) (writeBytes (s .table) output) output accepted) ∙ sym read-output))
+
+      written : n ≡ writeAnswer (s .table) output
+      written = en ∙ ap (λ x. writeAnswer x output) (same .words)
+
+      abbrev counts : ℕ
+      counts = packed 0 (s .added) (s .removed) (writeLength (s .table) output)
+
+      pub way-unwritten : (r : ℕ) → (n ≡ 0 → ⊥) → r ≡ packed n 0 0 0 → HostPromise image ticket output r u
+      way-unwritten r h p = (
+        p ∙ (ap (λ m. packed m 0 0 0) written ∙ (sym (refused-is (writeAnswer (s .table) output) counts (λ q. h (written ∙ q)))
+            ∙ sym applied-answer)),
+        left,
+      )
+
+      pub way-done : (r : ℕ) → n ≡ 0 → r ≡ packed 0 (a .added) (a .removed) l → HostPromise image ticket output r u
+      way-done r q p =
+          let long : l ≡ writeLength (s .table) output = el ∙ ap (λ x. writeLength x output) (same .words) in
+          let filled : packed 0 (a .added) (a .removed) l ≡ counts = λ i. packed 0 (same .added i) (same .removed i) (long i) in
+          (p ∙ (filled ∙ (sym (passed-is (writeAnswer (s .table) output) counts (sym written ∙ q)) ∙ sym applied-answer)), left)
