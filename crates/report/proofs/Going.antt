@@ -64,4 +64,4 @@ module _ {start bytes₀ out₀ w bytes out : List ℕ} (q : Going start bytes�
       let t : Turn = record { read = take n chunk; text = take (s .0) text } in
       let short : length (t .read) < length bytes₀ =
       omega (arith, s .1, b, q .chunk, length-take-le n chunk (omega (arith, s .1))) in
-      (q .turns, t, record { between = w; before = q .full; ended = short; runs = s .2 })
+      (q .turns, t, record { reached = w; before = q .full; ended = short; runs = s .2 })

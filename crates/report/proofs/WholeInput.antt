@@ -85,7 +85,7 @@ module _ (size : ℕ) (whole : size % recordLength ≡ 0) {w v : List ℕ} (from
   all : Runs start v (record { read = readBy (turns .0) (turns .1); text = writtenBy (turns .0) (turns .1) })
   all =
       let a = turns .2 in
-      runs-all (size / recordLength) size (omega (arith, whole)) (turns .0) (turns .1) start (a .between) v (a .before) (a .runs)
+      runs-all (size / recordLength) size (omega (arith, whole)) (turns .0) (turns .1) start (a .reached) v (a .before) (a .runs)
 
   pub ran-table : Table product v
   ran-table = subst (Table product) (sym (all .words))

@@ -12,15 +12,17 @@ abbrev pub Line : ℕ → ℕ → ℕ → List ℕ → Type 0
 Line a b c text = (first second third : List ℕ) × Number a 32 first × Number b 32 second × Number c 10 third
     × (text ≡ (first ++ second) ++ third)
 
--- The lines of tickets run in turn from the words w: answer, added, removed.
+-- The lines of tickets run in turn on a table: answer, added, removed.
 abbrev pub Lines : List ℕ → List (List ℕ) → List ℕ → Type 0
-Lines w [] text = text ≡ []
-Lines w (t ∷ l) text =
-    (first rest : List ℕ) × Line (step product w t .number) (step product w t .added)
-    (step product w t .removed) first × Lines (step product w t .table) l rest × (text ≡ first ++ rest)
+Lines table [] text = text ≡ []
+Lines table (ticket ∷ l) text =
+    (first rest : List ℕ)
+    × Line (step product table ticket .number) (step product table ticket .added)
+    (step product table ticket .removed) first
+    × Lines (step product table ticket .table) l rest × (text ≡ first ++ rest)
 
--- The lines of the tickets l stand at the start of a buffer, up to r, and the table has the register's words.
-pub record Printed (w : List ℕ) (l : List (List ℕ)) (r : ℕ) (table out : List ℕ) : Type 0 where
-  pub words : table ≡ run product w l .table
-  pub lines : Lines w l (take r out)
+-- The lines of the tickets stand at the start of a buffer, up to r, and the words left are the register's.
+pub record Printed (table : List ℕ) (tickets : List (List ℕ)) (r : ℕ) (left out : List ℕ) : Type 0 where
+  pub words : left ≡ run product table tickets .table
+  pub lines : Lines table tickets (take r out)
   pub within : r ≤ length out

@@ -31,30 +31,32 @@ pub record Turn : Type 0 where
   pub read : List ℕ
   pub text : List ℕ
 
--- On the words w it writes the lines of its tickets, and leaves the words v.
-pub record Runs (w v : List ℕ) (t : Turn) : Type 0 where
-  pub lines : Lines w (cut recordLength (t .read)) (t .text)
-  pub words : v ≡ run product w (cut recordLength (t .read)) .table
+-- On the words of a table it writes the lines of its tickets, and leaves these words.
+pub record Runs (table left : List ℕ) (turn : Turn) : Type 0 where
+  pub lines : Lines table (cut recordLength (turn .read)) (turn .text)
+  pub words : left ≡ run product table (cut recordLength (turn .read)) .table
 
 -- Turns one after another, each on the words that the one before left, each with a full chunk of `size`
 -- bytes.
 abbrev pub FullTurns : ℕ → List ℕ → List Turn → List ℕ → Type 0
-FullTurns size w [] v = v ≡ w
-FullTurns size w (t ∷ l) v = (u : List ℕ) × (length (t .read) ≡ size) × Runs w u t × FullTurns size u l v
+FullTurns size table [] left = left ≡ table
+FullTurns size table (turn ∷ l) left =
+    (next : List ℕ) × (length (turn .read) ≡ size) × Runs table next turn × FullTurns size next l left
 
--- All turns of a run from the words w, which leaves v: full ones, then the last, whose chunk is not full.
-pub record AllTurns (size : ℕ) (w v : List ℕ) (full : List Turn) (last : Turn) : Type 0 where
-  pub between : List ℕ
-  pub before : FullTurns size w full between
+-- All turns of a run on a table, and the words that it leaves: full ones, which lead to the words `reached`,
+-- then the last, whose chunk is not full.
+pub record AllTurns (size : ℕ) (table left : List ℕ) (full : List Turn) (last : Turn) : Type 0 where
+  pub reached : List ℕ
+  pub before : FullTurns size table full reached
   pub ended : length (last .read) < size
-  pub runs : Runs between v last
+  pub runs : Runs reached left last
 
 -- What they read, and what they write, one after another.
 abbrev pub readBy : List Turn → Turn → List ℕ
-readBy full last = concatMap (λ t. t .read) full ++ last .read
+readBy full last = concatMap (λ turn. turn .read) full ++ last .read
 
 abbrev pub writtenBy : List Turn → Turn → List ℕ
-writtenBy full last = concatMap (λ t. t .text) full ++ last .text
+writtenBy full last = concatMap (λ turn. turn .text) full ++ last .text
 
 -- The length of a chunk, which holds whole tickets, and of the text's buffer, which has room for a line of 18
 -- bytes for each.
@@ -69,25 +71,26 @@ pub record Lent (words bytes out : List ℕ) : Type 0 where
 
 -- What a turn shows of itself in the chunk and in the text's buffer, by its answer. A turn that failed is the
 -- end.
-abbrev pub Shows : Turned → (w bytes v out : List ℕ) → Type 0
-Shows More w bytes v out = (k : ℕ) × Runs w v (record { read = bytes; text = take k out })
-Shows (Last n) w bytes v out =
-    (k : ℕ) × (n < length bytes) × Runs w v (record { read = take n bytes; text = take k out })
-Shows Failed w bytes v out = Unit {0}
+abbrev pub Shows : Turned → (table bytes left out : List ℕ) → Type 0
+Shows More table bytes left out = (end : ℕ) × Runs table left (record { read = bytes; text = take end out })
+Shows (Last count) table bytes left out =
+    (end : ℕ) × (count < length bytes)
+    × Runs table left (record { read = take count bytes; text = take end out })
+Shows Failed table bytes left out = Unit {0}
 
 -- If the turns went on to the end of the input, they are all its turns.
 abbrev pub Ran : Bool → ℕ → List ℕ → List ℕ → Type 0
-Ran true size w v = (full : List Turn) × (last : Turn) × AllTurns size w v full last
-Ran false size w v = Unit {0}
+Ran true size table left = (full : List Turn) × (last : Turn) × AllTurns size table left full last
+Ran false size table left = Unit {0}
 
 -- A whole run on a fresh table: its turns, and that they and the count's line write what is printed for the
 -- input.
-pub record Complete (size : ℕ) (v count : List ℕ) : Type 0 where
+pub record Complete (size : ℕ) (left count : List ℕ) : Type 0 where
   pub full : List Turn
   pub last : Turn
-  pub turns : AllTurns size start v full last
+  pub turns : AllTurns size start left full last
   pub output : Output (readBy full last) (writtenBy full last ++ count)
 
 -- By the length r of the count's line, which stands at the start of `out`: 0 if the run is not whole.
 abbrev pub Finishes : ℕ → ℕ → List ℕ → List ℕ → Type 0
-Finishes r size v out = 0 < r → Complete size v (take r out)
+Finishes r size left out = 0 < r → Complete size left (take r out)

@@ -22,7 +22,7 @@ pub fn bytes_in(bytes: &[u8], most: usize) -> usize
     most
 }
 
-// Whether two runs of bytes are the same.
+// Whether the bytes are the same, and as many.
 pub fn is_same(bytes: &[u8], other: &[u8]) -> bool {
     if bytes.len() != other.len() {
         return false;

@@ -1,5 +1,5 @@
 // For a program that runs a script: a line read, and a line printed. Names among names, bytes and words in
-// hexadecimal, numbers; runs of bytes and of words compared and copied.
+// hexadecimal, numbers; bytes and words compared and copied.
 //
 // The functions serve the program. Those that answer a place or a length within what is lent promise it; the
 // others promise nothing. `find_byte` asks for a place within its text. Assumed are the kit's libc functions,

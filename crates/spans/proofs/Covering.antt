@@ -47,10 +47,10 @@ module _ {t : List ℕ} (F : FactWords t) (j r : ℕ) (S : SpanStart t j r) wher
   span-past i a n m b l e =
       let low : spanOf (at t r) ≤ spanOf (at t i) = spans-ascend F r i a (omega arith) in
       let high : spanOf (at t i) ≤ spanOf (at t m) = spans-ascend F i m b l in
-      n (between _ _ _ _ low high (S .here (span-from m l e .0)) e)
+      n (same-within _ _ _ _ low high (S .here (span-from m l e .0)) e)
     where
-      between : (a b c d : ℕ) → a ≤ b → b ≤ c → a ≡ d → c ≡ d → b ≡ d
-      between a b c d p q u v = omega arith
+      same-within : (a b c d : ℕ) → a ≤ b → b ≤ c → a ≡ d → c ≡ d → b ≡ d
+      same-within a b c d p q u v = omega arith
 
 -- No word from w on stands before the start of w's span, and a span without words has not w.
 pub span-before : {t : List ℕ} (w r : ℕ) → Id (firstOf w) → SpanStart t (spanOf w) r → r < length t → Before t r w

@@ -98,7 +98,7 @@ least-word w k a h i e = omega arith
 
 module _ {t s : List ℕ} (X : Indexed t s) (k a i w : ℕ) (A : Id a) (I : i ≡ at s (spanAt k a)) (W : w ≡ wordOf k a 0 0) where
   least-first : Has t (wordOf k a 0 0) → (i < length t) × (at t i ≡ w)
-  least-first (m, l, e) = (within, between (at t i) (at t m) (words-ascend (X .words) i m from l) least e)
+  least-first (m, l, e) = (within, same-within (at t i) (at t m) (words-ascend (X .words) i m from l) least e)
     where
       same : spanOf (at t m) ≡ spanAt k a
       same = span-by (at t m) k a 0 A (omega arith) e
@@ -115,8 +115,8 @@ module _ {t s : List ℕ} (X : Indexed t s) (k a i w : ℕ) (A : Id a) (I : i �
       least : wordOf k a 0 0 ≤ at t i
       least = least-word (at t i) k a A (first-id (X .words) i within) (rw I (start .1))
 
-      between : (u v : ℕ) → u ≤ v → wordOf k a 0 0 ≤ u → v ≡ wordOf k a 0 0 → u ≡ w
-      between u v p q r = omega (arith, W)
+      same-within : (u v : ℕ) → u ≤ v → wordOf k a 0 0 ≤ u → v ≡ wordOf k a 0 0 → u ≡ w
+      same-within u v p q r = omega (arith, W)
 
   pub least-decides : (b : Bool) → Decides b ((i < length t) × (at t i ≡ w)) → Decides b (Stands t k a 0 0)
   least-decides true h = ((A, omega arith, omega arith), (i, h .0, h .1 ∙ W))

@@ -28,8 +28,8 @@ module _ (x : ℕ) where
   pub value-below : x < 48 → digitValue x ≡ 0
   value-below h = by-tests (lt-leb 48 x h) refl (lt-leb 97 x (omega arith)) refl
 
-  pub value-between : 57 < x → x < 97 → digitValue x ≡ 0
-  value-between l h = by-tests (le-leb 48 x (omega arith)) (lt-leb x 57 l) (lt-leb 97 x h) refl
+  pub value-in-gap : 57 < x → x < 97 → digitValue x ≡ 0
+  value-in-gap l h = by-tests (le-leb 48 x (omega arith)) (lt-leb x 57 l) (lt-leb 97 x h) refl
 
   pub value-above : 102 < x → digitValue x ≡ 0
   value-above h = by-tests (le-leb 48 x (omega arith)) (lt-leb x 57 (omega arith)) (le-leb 97 x (omega arith)) (lt-leb x 102 h)

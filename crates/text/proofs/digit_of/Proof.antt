@@ -2,7 +2,7 @@
 use mathlib.Core.Path.{sym}
 use native.Mathlib.Omega.{arith}
 use borrow.Author.Needs.{needs}
-use Rattle.text.proofs.DigitValues.{value-digit, value-letter, value-below, value-between, value-above}
+use Rattle.text.proofs.DigitValues.{value-digit, value-letter, value-below, value-in-gap, value-above}
 use Rattle.text.proofs.digit_of.Statement.{statement}
 use Rattle.text.proofs.digit_of.Tie as tie
 
@@ -26,7 +26,7 @@ returns-3 : tie.Need-returns-3
 returns-3 c = (sym (value-below (c .before .args .byte) (c .if1 .taken)), omega arith)
 
 returns-4 : tie.Need-returns-4
-returns-4 c = (sym (value-between (c .before .before .before .args .byte) (c .before .if2 .left) (c .if3 .taken)), omega arith)
+returns-4 c = (sym (value-in-gap (c .before .before .before .args .byte) (c .before .if2 .left) (c .if3 .taken)), omega arith)
 
 returns-5 : tie.Need-returns-5
 returns-5 c = (sym (value-above (c .before .before .before .before .args .byte) (c .if4 .left)), omega arith)
