@@ -1,5 +1,5 @@
 -- The check's answer from the refusals of the layout and the visit of the rules. Assumes nothing.
-use Prim.Native.Nat.{ℕ, _≤_}
+use Prim.Native.Nat.{ℕ, _≤_, _<_}
 use mathlib.Core.Path.{_≡_, refl, sym, ap, _∙_}
 use mathlib.Core.Bool.{Bool, true, false, not}
 use mathlib.Core.Logic.{inr}
@@ -9,7 +9,7 @@ use native.Mathlib.Decide.{decLt}
 use lib.Dec.{T}
 use lib.ListN.{length}
 use Rattle.rdfs.specs.Numbers.{product}
-use Rattle.rdfs.specs.Facts.{graph}
+use Rattle.rdfs.specs.Facts.{Fact, graph}
 use Rattle.rdfs.specs.Words.{laidOut, facts}
 use Rattle.rdfs.specs.Clashes.{consistent?}
 use Rattle.rdfs.specs.Refusals.{orElse, badSize, badLayout, inconsistent, layoutRefusal, tableRefusal}
@@ -17,11 +17,23 @@ use Rattle.rdfs.proofs.consistency.Decision.{check-sound, check-complete}
 use Rattle.table.proofs.TestAnswers.{is-true, is-false}
 use Rattle.table.proofs.Sizes.{tests-size}
 use Rattle.table.proofs.TableRefusals.{taken-laid}
-use Rattle.rules.specs.RuleOf.{ruleOf}
-use Rattle.consistency.specs.declared.Visited.{Visited}
-use Rattle.consistency.specs.declared.Visited.the-variants.{AllMet, Broken}
-use Rattle.consistency.specs.Order.{rulesInOrder, MeetsAll, Answers, numberOf}
-use Rattle.consistency.proofs.Visiting.{all-consistent, consistent-all, broken-not}
+use Rattle.consistency.specs.Order.{rulesInOrder, MetFirst}
+use Rattle.consistency.proofs.MetLaws.{met-all, met-broken, broken-not}
+use Rattle.consistency.proofs.Visiting.{all-consistent, consistent-all}
+
+-- Facts of which n rules are met before the first that is broken are consistent exactly if n is the number of all rules.
+module _ (K : List Fact) {n : ℕ} (m : MetFirst (graph K) rulesInOrder n) where
+  met-consistent : length rulesInOrder ≤ n → T (consistent? K)
+  met-consistent h = check-complete K (all-consistent (graph K) (met-all m h))
+
+  broken-inconsistent : n < length rulesInOrder → T (consistent? K) → ⊥
+  broken-inconsistent h t = broken-not (met-broken m h) (consistent-all (graph K) (check-sound K t))
+
+  pub inconsistent-broken : (T (consistent? K) → ⊥) → n < length rulesInOrder
+  inconsistent-broken h = elim (decLt n (length rulesInOrder)) [
+    | yes l ↦ l
+    | no q ↦ absurd (h (met-consistent (omega (arith, q))))
+  ]
 
 -- Refusals 1 and 2 come first.
 first-two : (size layout : Bool) (rest a : ℕ) → a ≡ orElse size 1 (orElse layout 2 0) → (a ≡ 0 → ⊥)
@@ -67,17 +79,13 @@ module _ (table : List ℕ) (a : ℕ) (e : a ≡ layoutRefusal product table 0) 
     by-rules b q = sym (past-two (badSize product table) (badLayout product table) (orElse (inconsistent product table) 3 0) none
         ∙ ap (λ i. orElse i 3 0) q)
 
-    pub past-number : (v : Visited) → Answers (graph (facts product table)) rulesInOrder v
-        → numberOf v ≡ tableRefusal product table 0
-    past-number AllMet m =
-        let K = facts product table in
-        let good : consistent? K ≡ true = is-true (check-complete K (all-consistent (graph K) m)) in
-        by-rules false (ap not good)
-    past-number (Broken r) f =
-        let K = facts product table in
-        let met : T (consistent? K) → MeetsAll (graph K) rulesInOrder = λ t. consistent-all (graph K) (check-sound K t) in
-        let bad : consistent? K ≡ false = is-false (λ t. broken-not (graph K) rulesInOrder (ruleOf r) f (met t)) in
-        by-rules true (ap not bad)
+    -- n rules are met before the first that is broken.
+    module _ {n : ℕ} (m : MetFirst (graph (facts product table)) rulesInOrder n) where
+      pub past-broken : n < length rulesInOrder → 3 ≡ tableRefusal product table 0
+      past-broken h = by-rules true (ap not (is-false {b = consistent? (facts product table)} (broken-inconsistent (facts product table) m h)))
+
+      pub past-met : length rulesInOrder ≤ n → 0 ≡ tableRefusal product table 0
+      past-met h = by-rules false (ap not (is-true {b = consistent? (facts product table)} (met-consistent (facts product table) m h)))
 
 pub refused-laid : (table : List ℕ) → 3 ≡ tableRefusal product table 0 → T (laidOut product 1 table)
     × (length table ≤ product .most)

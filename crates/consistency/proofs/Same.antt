@@ -1,5 +1,7 @@
 -- Two graphs with the same facts meet the same rules. Assumes nothing.
+use Prim.Native.Nat.{ℕ}
 use mathlib.Core.Logic.{inl, inr, ⊎-elim}
+use mathlib.Core.List.{List}
 use Rattle.rdfs.specs.Facts.{Graph, _⊑_}
 use Rattle.rdfs.specs.Rules.{
   Rule,
@@ -33,10 +35,7 @@ use Rattle.rdfs.specs.Rules.{
   h3,
   h4,
 }
-use mathlib.Core.List.{List}
-use Rattle.consistency.specs.declared.Visited.{Visited}
-use Rattle.consistency.specs.declared.Visited.the-variants.{AllMet, Broken}
-use Rattle.consistency.specs.Order.{MeetsAll, none, also, FirstBroken, here, later, Answers}
+use Rattle.consistency.specs.Order.{MetFirst, end, stop, pass}
 
 meets-same : (G H : Graph) → _⊑_ G H → _⊑_ H G → (r : Rule) → Meets G r → Meets H r
 meets-same G H to from r4 m = λ x p q. m x (from _ p) (from _ q)
@@ -70,15 +69,7 @@ meets-same G H to from h2 m = λ x p. let q =
 meets-same G H to from h3 m = λ x y z p q. to _ (m x y z (from _ p) (from _ q))
 meets-same G H to from h4 m = λ x y z w p q s. m x y z w (from _ p) (from _ q) (from _ s)
 
-module _ (G H : Graph) (to : _⊑_ G H) (from : _⊑_ H G) where
-  all-same : {l : List Rule} → MeetsAll G l → MeetsAll H l
-  all-same none = none
-  all-same (also {r = r} p m) = also (meets-same G H to from r p) (all-same m)
-
-  broken-same : {r : Rule} {l : List Rule} → FirstBroken G r l → FirstBroken H r l
-  broken-same {r = r} (here n) = here (λ m. n (meets-same H G from to r m))
-  broken-same (later {q = q} p f) = later (meets-same G H to from q p) (broken-same f)
-
-  pub answers-same : (l : List Rule) (v : Visited) → Answers G l v → Answers H l v
-  answers-same l AllMet m = all-same m
-  answers-same l (Broken r) f = broken-same f
+pub met-same : (G H : Graph) → _⊑_ G H → _⊑_ H G → {l : List Rule} {n : ℕ} → MetFirst G l n → MetFirst H l n
+met-same G H to from end = end
+met-same G H to from (stop {r = r} b) = stop (λ m. b (meets-same H G from to r m))
+met-same G H to from (pass {r = r} p m) = pass (meets-same G H to from r p) (met-same G H to from m)

@@ -1,5 +1,5 @@
--- The visit of a list of rules: the rules before a place are met. How that goes on, what it says at a broken rule and at the
--- list's end, and what the rule at the place relies on. All rules in order are consistency. Assumes nothing.
+-- The visit of a list of rules: the rules before a place are met. How that goes on, how many are met when it stops, and what
+-- the rule at the place relies on. All rules in order are consistency. Assumes nothing.
 use Prim.Native.Nat.{ℕ, zero, suc, _+_, _≤_, _<_}
 use mathlib.Core.Path.{sym, subst}
 use mathlib.Core.Logic.{⊎-elim}
@@ -12,7 +12,8 @@ use Rattle.rdfs.specs.Facts.{Graph}
 use Rattle.rdfs.specs.Rules.{Rule, Meets}
 use Rattle.rdfs.specs.Consistency.{Consistent}
 use Rattle.rules.specs.Earlier.{Earlier}
-use Rattle.consistency.specs.Order.{rulesInOrder, ruleAt, MeetsAll, none, also, FirstBroken, here, later}
+use Rattle.consistency.specs.Order.{rulesInOrder, ruleAt, MetFirst, end, stop, pass, MeetsAll, none, also}
+use Rattle.consistency.proofs.MetLaws.{met-all}
 
 -- Each rule before place i is met.
 abbrev pub MetBefore : Graph → List Rule → ℕ → Type 0
@@ -42,15 +43,17 @@ module _ (G : Graph) where
   pub visit-more : (l : List Rule) (i : ℕ) → MetBefore G l i → Meets G (ruleAt l i) → MetBefore G l (i + 1)
   visit-more l i p m j h = ⊎-elim (λ e. subst (λ k. Meets G (ruleAt l k)) (sym e) m) (p j) (eq-or-lt-of-le (omega arith))
 
-  pub visit-stops : (l : List Rule) (i : ℕ) → i < length l → MetBefore G l i → (Meets G (ruleAt l i) → ⊥)
-      → FirstBroken G (ruleAt l i) l
-  visit-stops [] i h p n = absurd (omega arith)
-  visit-stops (r ∷ l) zero h p n = here n
-  visit-stops (r ∷ l) (suc i) h p n = later (p 0 (omega arith)) (visit-stops l i (omega arith) (λ j k. p (suc j) (omega arith)) n)
+  -- It stops at the list's end, or at a rule that is broken.
+  pub visit-stops : (l : List Rule) (i : ℕ) → i ≤ length l → MetBefore G l i → (i < length l → Meets G (ruleAt l i) → ⊥)
+      → MetFirst G l i
+  visit-stops [] zero h p n = end
+  visit-stops [] (suc i) h p n = absurd (omega arith)
+  visit-stops (r ∷ l) zero h p n = stop (n (omega arith))
+  visit-stops (r ∷ l) (suc i) h p n = pass (p 0 (omega arith)) (visit-stops l i (omega arith) (λ j k. p (suc j) (omega arith))
+      (λ k. n (omega arith)))
 
-  pub visit-ends : (l : List Rule) (i : ℕ) → length l ≤ i → MetBefore G l i → MeetsAll G l
-  visit-ends [] i h p = none
-  visit-ends (r ∷ l) i h p = also (p 0 (omega arith)) (visit-ends l (length l) (omega arith) (λ j k. p (suc j) (omega arith)))
+  pub visit-ends : (l : List Rule) → MetBefore G l (length l) → MetFirst G l (length l)
+  visit-ends l p = visit-stops l (length l) (omega arith) p (λ k. absurd (omega arith))
 
   -- Most rules rely on none before them; rules 16 and 17, which five rely on, stand at places 12 and 13.
   relied : EachPlace (λ i r. MetBefore G rulesInOrder i → Earlier G r) rulesInOrder
@@ -68,13 +71,8 @@ module _ (G : Graph) where
   met-at (r ∷ l) (also p m) zero h = p
   met-at (r ∷ l) (also p m) (suc j) h = met-at l m j (omega arith)
 
-  -- A rule that is broken leaves no list of met rules with it.
-  pub broken-not : (l : List Rule) (r : Rule) → FirstBroken G r l → MeetsAll G l → ⊥
-  broken-not (q ∷ l) r (here n) (also p m) = n p
-  broken-not (q ∷ l) r (later k f) (also p m) = broken-not l r f m
-
   pub consistent-all : Consistent G → MeetsAll G rulesInOrder
-  consistent-all c = visit-ends rulesInOrder 28 (lit≤ tt) (each-at rulesInOrder (λ i r. Meets G r) met)
+  consistent-all c = met-all (visit-ends rulesInOrder (each-at rulesInOrder (λ i r. Meets G r) met)) (lit≤ tt)
     where
       met : EachPlace (λ i r. Meets G r) rulesInOrder
       met =

@@ -1,5 +1,5 @@
--- The rules in the paper's order, the first that a graph breaks, and what a visit of some of them answers.
-use Prim.Native.Nat.{ℕ}
+-- The rules in the paper's order, how many a graph meets before the first that it breaks, and which that is.
+use Prim.Native.Nat.{ℕ, suc}
 use mathlib.Core.List.{List, [], _∷_}
 use lib.ListN.{getD}
 use Rattle.rdfs.specs.Facts.{Graph}
@@ -51,6 +51,12 @@ rulesInOrder =
 abbrev pub ruleAt : List Rule → ℕ → Rule
 ruleAt l i = getD l i r4
 
+-- The first n rules of a list are met, and the one after them, if there is one, is broken.
+pub data MetFirst (G : Graph) : List Rule → ℕ → Type 0 where
+  end : MetFirst G [] 0
+  stop : {r : Rule} {l : List Rule} → (Meets G r → ⊥) → MetFirst G (r ∷ l) 0
+  pass : {r : Rule} {l : List Rule} {n : ℕ} → Meets G r → MetFirst G l n → MetFirst G (r ∷ l) (suc n)
+
 -- Each rule of the list is met.
 pub data MeetsAll (G : Graph) : List Rule → Type 0 where
   none : MeetsAll G []
@@ -65,8 +71,3 @@ pub data FirstBroken (G : Graph) (r : Rule) : List Rule → Type 0 where
 abbrev pub Answers : Graph → List Rule → Visited → Type 0
 Answers G l AllMet = MeetsAll G l
 Answers G l (Broken q) = FirstBroken G (ruleOf q) l
-
--- Document 01's number for each answer to a visit of all rules: 0 if the table is consistent, else refusal 3.
-abbrev pub numberOf : Visited → ℕ
-numberOf AllMet = 0
-numberOf (Broken q) = 3

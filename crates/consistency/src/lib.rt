@@ -1,8 +1,9 @@
 // The check of a lent table: refusals 1, 2 and 3, the rules visited one by one in the order of Fig. 3.
 //
 // The public call is `check`. It has no `requires`: it says, for all inputs, what it answers; it writes
-// nothing. `first_broken` serves the crates above, and names the rule on a table that is laid out. The crate
-// assumes nothing. A call takes the stack of the index and of a span's stamps, and some hundred bytes.
+// nothing. `count_met` and `first_broken` serve the crates above: on a table that is laid out, how many rules
+// are met before the first that is broken, and which that is. The crate assumes nothing. A call takes the
+// stack of the index and of a span's stamps, and some hundred bytes.
 mod visit;
 
 pub use rules::Rule;
@@ -12,6 +13,8 @@ use table::INCONSISTENT;
 use table::Word;
 use table::count_facts;
 use table::layout_refusal;
+use visit::RULES;
+use visit::rule_at;
 use visit::visit;
 ghost use mathlib.Core.Path.{_≡_};
 ghost use Prim.Native.Nat.{_≤_};
@@ -22,9 +25,9 @@ ghost use Rattle.rdfs.specs.Facts.{graph};
 ghost use Rattle.rdfs.specs.Words.{laidOut};
 ghost use Rattle.rdfs.specs.Refusals.{tableRefusal};
 ghost use Rattle.table.specs.Counted.{factsOf};
-ghost use Rattle.consistency.specs.Order.{rulesInOrder, Answers, numberOf};
+ghost use Rattle.consistency.specs.Order.{rulesInOrder, MetFirst, Answers};
 
-// What a visit of some rules, one after another, finds.
+// What a visit of all rules, one after another, finds.
 pub enum Visited {
     // Each is met.
     AllMet,
@@ -32,11 +35,11 @@ pub enum Visited {
     Broken(Rule),
 }
 
-// The first rule that a table breaks.
-pub fn first_broken(table: &[Word]) -> Visited
+// How many rules, in the paper's order, a table meets before the first that it breaks; all if it breaks none.
+pub fn count_met(table: &[Word]) -> usize
     requires layout { ⌜ T (laidOut product 1 (now table)) ⌝ }
     requires size { ⌜ length (now table) ≤ product .most ⌝ }
-    ensures answer { λ r. ⌜ Answers (graph (factsOf (now (table .entry)))) rulesInOrder r ⌝ }
+    ensures answer { λ r. ⌜ MetFirst (graph (factsOf (now (table .entry)))) rulesInOrder r ⌝ }
 {
     let count = count_facts(table);
     let words = &table[..count];
@@ -45,14 +48,18 @@ pub fn first_broken(table: &[Word]) -> Visited
     visit(words, &index)
 }
 
-// The check's answer after a visit of all rules.
-fn answer_of(visited: Visited) -> u8
-    ensures answer { λ r. ⌜ r ≡ numberOf visited ⌝ }
+// The first rule that a table breaks.
+pub fn first_broken(table: &[Word]) -> Visited
+    requires layout { ⌜ T (laidOut product 1 (now table)) ⌝ }
+    requires size { ⌜ length (now table) ≤ product .most ⌝ }
+    ensures answer { λ r. ⌜ Answers (graph (factsOf (now (table .entry)))) rulesInOrder r ⌝ }
 {
-    match visited {
-        Visited::AllMet => 0,
-        Visited::Broken(_) => INCONSISTENT,
+    let met = count_met(table);
+    if met < RULES {
+        let rule = rule_at(met);
+        return Visited::Broken(rule);
     }
+    Visited::AllMet
 }
 
 // The first of refusals 1, 2 and 3 whose condition holds, or 0: the table is laid out and consistent.
@@ -63,6 +70,9 @@ pub fn check(table: &[Word]) -> u8
     if answer != 0 {
         return answer;
     }
-    let visited = first_broken(table);
-    answer_of(visited)
+    let met = count_met(table);
+    if met < RULES {
+        return INCONSISTENT;
+    }
+    0
 }

@@ -1,6 +1,5 @@
 // The visit of the rules one by one, in the order of Fig. 3, then H1 to H4. It gets past each exactly if it
 // is met.
-use crate::Visited;
 use rules::Rule;
 use rules::meets;
 use table::Word;
@@ -10,9 +9,9 @@ ghost use lib.ListN.{length};
 ghost use Rattle.spans.specs.Spans.{Indexed};
 ghost use Rattle.spans.specs.Graphs.{graphOf};
 ghost use Rattle.rules.specs.RuleOf.{ruleOf};
-ghost use Rattle.consistency.specs.Order.{ruleAt, rulesInOrder, Answers};
+ghost use Rattle.consistency.specs.Order.{ruleAt, rulesInOrder, MetFirst};
 
-const RULES: usize = 28;
+pub const RULES: usize = 28;
 
 const ORDER: [Rule; RULES] = [
     Rule::R4,
@@ -46,25 +45,25 @@ const ORDER: [Rule; RULES] = [
 ];
 
 // The rule at a place in the order.
-fn rule_at(place: usize) -> Rule
+pub fn rule_at(place: usize) -> Rule
     requires place { ⌜ place < length rulesInOrder ⌝ }
     ensures answer { λ r. ⌜ ruleOf r ≡ ruleAt rulesInOrder place ⌝ }
 {
     ORDER[place]
 }
 
-// The first rule that is broken, of all.
-pub fn visit<'a>(table: &'a [Word], index: &'a [u16]) -> Visited
+// How many rules are met before the first that is broken; all, if none is.
+pub fn visit<'a>(table: &'a [Word], index: &'a [u16]) -> usize
     requires words { ⌜ Indexed (now table) (now index) ⌝ }
-    ensures answer { λ r. ⌜ Answers (graphOf (now (table .entry))) rulesInOrder r ⌝ }
+    ensures answer { λ r. ⌜ MetFirst (graphOf (now (table .entry))) rulesInOrder r ⌝ }
 {
     let mut at = 0;
     while at < RULES {
         let rule = rule_at(at);
         if !meets(table, index, rule) {
-            return Visited::Broken(rule);
+            return at;
         }
         at += 1;
     }
-    Visited::AllMet
+    at
 }

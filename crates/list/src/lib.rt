@@ -2,7 +2,9 @@
 //
 // The public call is `apply_list`. It has no `requires`: it says, for all inputs, its answer, both counts,
 // and every word and byte afterwards. Demand 3, about a whole list by every call, is proved here
-// (proofs/ListTheorem). The crate assumes nothing.
+// (proofs/ListTheorem). `run_checked` and `run_unanswered` serve the crates above: the list on a table known
+// to be consistent, with answers and without. The crate assumes nothing.
+ghost use mathlib.Core.Path.{_≡_};
 ghost use Prim.Native.Nat.{_≤_};
 ghost use lib.ListN.{length};
 ghost use Rattle.rdfs.specs.Numbers.{product, recordLength};
@@ -19,7 +21,7 @@ use table::Word;
 use ticket::apply_checked;
 
 // Runs the tickets in turn on a table known to be consistent. The answer is how many are accepted.
-fn run_checked(table: &mut [Word], bytes: &[u8], answers: &mut [u8]) -> usize
+pub fn run_checked(table: &mut [Word], bytes: &[u8], answers: &mut [u8]) -> usize
     requires table { ⌜ Table product (now table) ⌝ }
     requires room { ⌜ length (cut recordLength (now bytes)) ≤ length (now answers) ⌝ }
     ensures answer { λ r. ⌜ AllRun r (now (table .exit)) (now (answers .entry)) (now (answers .exit))
@@ -36,6 +38,20 @@ fn run_checked(table: &mut [Word], bytes: &[u8], answers: &mut [u8]) -> usize
         from = to;
     }
     accepted
+}
+
+// The same without answers: what the tickets leave, and nothing else.
+pub fn run_unanswered(table: &mut [Word], bytes: &[u8])
+    requires table { ⌜ Table product (now table) ⌝ }
+    ensures words { λ _. ⌜ now (table .exit) ≡ register product (now (table .entry)) (now (bytes .entry))
+        .table ⌝ }
+{
+    let mut from = 0;
+    while from < bytes.len() {
+        let to = find_end(from, bytes.len());
+        apply_checked(table, &bytes[from..to]);
+        from = to;
+    }
 }
 
 // Runs a list of tickets in turn on one table, which is checked once. Each ticket's number goes to its answer

@@ -10,7 +10,7 @@ use lib.ListN.{length, take, drop, replicate}
 use Rattle.rdfs.specs.Numbers.{product}
 use Rattle.rdfs.specs.Lists.{_∈_, here, there}
 use Rattle.rdfs.specs.Clashes.{consistent?}
-use Rattle.rdfs.specs.Words.{fact, isFact, laidOut, filled, padded}
+use Rattle.rdfs.specs.Words.{fact, isFact, laidOut, filled, facts, padded}
 use Rattle.rdfs.specs.Refusals.{orElse, badSize, badLayout, inconsistent, tableRefusal}
 use Rattle.rdfs.proofs.lists.ListLaws.{none-in}
 use Rattle.rdfs.proofs.words.LaidOut.{filled-before, laid-from}
@@ -55,16 +55,19 @@ module _ (t bytes : List ℕ) (size : badSize product t ≡ false) (h : length (
   pub held-filled : filled held ≡ l
   held-filled = filled-before l (length t - length l) (words-some product form product-sound bytes)
 
+  pub held-facts : facts product held ≡ facts product l
+  held-facts = ap (map (fact (product .base))) (held-filled ∙ sym (words-full product form product-sound bytes))
+
+  pub held-laid : laidOut product 1 held ≡ laidOut product 1 l
+  held-laid = laid-before 0 l (length t - length l) (words-some product form product-sound bytes)
+
   -- Its refusals are those of the words.
   pub held-checked : tableRefusal product held 0 ≡ orElse (badLayout product l) 2 (orElse (inconsistent product l) 3 0)
   held-checked =
       let sized : badSize product held ≡ false = ap (λ n. leb n 0 || ltb (product .most) n) (padded-length (length t) l h)
       ∙ size in
-      let laid : badLayout product held ≡ badLayout product l =
-      ap not (laid-before 0 l (length t - length l) (words-some product form product-sound bytes)) in
-      let same : inconsistent product held ≡ inconsistent product l =
-      ap (λ m. not (consistent? (map (fact (product .base)) m))) (held-filled
-      ∙ sym (words-full product form product-sound bytes)) in
+      let laid : badLayout product held ≡ badLayout product l = ap not held-laid in
+      let same : inconsistent product held ≡ inconsistent product l = ap (λ K. not (consistent? K)) held-facts in
       ap (λ b. orElse b 1 (orElse (badLayout product held) 2 (orElse (inconsistent product held) 3 0))) sized
       ∙ (ap (λ b. orElse b 2 (orElse (inconsistent product held) 3 0)) laid
       ∙ ap (λ b. orElse (badLayout product l) 2 (orElse b 3 0)) same)

@@ -82,15 +82,20 @@ module _ (t bytes : List ℕ) where
     read-fitting h = read-sized ∙ ap (λ b. orElse (malformed product form bytes) 12 (orElse b 11 (last bytes)))
         (le-ltb (length t) (length (words bytes)) h)
 
+  -- Refused with none of 1, 12 and 11: what is left is refusal 3, or 0.
+  pub read-judged : (n : ℕ) → (1 ≡ n → ⊥) → n < 11 → n ≡ readAnswer t bytes → (badSize product t ≡ false)
+      × (malformed product form bytes ≡ false) × (length (words bytes) ≤ length t) × (last bytes ≡ n)
+  read-judged n other small e =
+      let more : Bool = ltb (length t) (length (words bytes)) in
+      let a = passed-link (badSize product t) 1 (imageRefusal bytes (length t) (last bytes)) n other (sym e) in
+      let b = passed-link (malformed product form bytes) 12 (orElse more 11 (last bytes)) n (omega (arith, small)) (a .1) in
+      let c = passed-link more 11 (last bytes) n (omega (arith, small)) (b .1) in
+      (is-false (a .0), is-false (b .0), ltb-false (length t) (length (words bytes)) (is-false (c .0)), c .1)
+
   -- Not refused.
   pub read-parts : 0 ≡ readAnswer t bytes → (badSize product t ≡ false) × (malformed product form bytes ≡ false)
       × (length (words bytes) ≤ length t) × (last bytes ≡ 0)
-  read-parts e =
-      let more : Bool = ltb (length t) (length (words bytes)) in
-      let a = passed-link (badSize product t) 1 (imageRefusal bytes (length t) (last bytes)) 0 (omega arith) (sym e) in
-      let b = passed-link (malformed product form bytes) 12 (orElse more 11 (last bytes)) 0 (omega arith) (a .1) in
-      let c = passed-link more 11 (last bytes) 0 (omega arith) (b .1) in
-      (is-false (a .0), is-false (b .0), ltb-false (length t) (length (words bytes)) (is-false (c .0)), c .1)
+  read-parts e = read-judged 0 (omega arith) (omega arith) e
 
   pub read-length : length (readWords t bytes) ≡ length t
   read-length = elim (ℕ-discrete (readAnswer t bytes) 0) [

@@ -1,7 +1,8 @@
 // An image, read into a lent table.
 //
 // The public call is `read`, which crate `image` passes on. It has no `requires`: it says, for all inputs,
-// what it answers and every word afterwards. The crate assumes nothing.
+// what it answers and every word afterwards. `store_words` serves the crates above: the words of an image with
+// right contents, without the check. The crate assumes nothing.
 ghost use Rattle.reading.specs.ReadPromise.{ReadPromise};
 
 mod reader;
@@ -11,6 +12,7 @@ use contents::has_contents;
 use reader::count_words;
 use reader::overfull_refusal;
 use reader::read_through;
+pub use reader::store_words;
 use table::BAD_SIZE;
 use table::MALFORMED;
 use table::MOST;

@@ -6,6 +6,7 @@ ghost use lib.ListN.{length, drop, replicate};
 ghost use lib.Seq.{paste};
 ghost use Rattle.rdfs.specs.Numbers.{product};
 ghost use Rattle.rdfs.specs.Refusals.{orElse};
+ghost use Rattle.contents.specs.ImageForm.{form};
 ghost use Rattle.contents.specs.Legible.{formOf};
 ghost use Rattle.contents.specs.Reading.{wordsFrom, wordsOf, malformed};
 ghost use Rattle.contents.specs.WithinBytes.{HasContents, HasFacts};
@@ -98,6 +99,17 @@ fn fill_words(form: Form, table: &mut [Word], image: &[u8])
     }
 }
 
+// The same in the product's form. All who store an image's words call this one, so that the compiler has the
+// form's numbers where the words are made.
+pub fn store_words(table: &mut [Word], image: &[u8])
+    requires contents { ⌜ HasContents form (now image) ⌝ }
+    requires room { ⌜ length (wordsOf product form (now image)) ≤ length (now table) ⌝ }
+    ensures words { λ _. ⌜ now (table .exit) ≡ wordsOf product form (now (image .entry)) ++ drop
+        (length (wordsOf product form (now (image .entry)))) (now (table .entry)) ⌝ }
+{
+    fill_words(FORM, table, image);
+}
+
 // Reads an image with right contents and facts that fit, through a work table of as many zeros as the table
 // has words. The words are not laid out exactly if the image is malformed, so refusal 2 of the check is 12.
 pub fn read_through(table: &mut [Word], work: &mut [Word], image: &[u8]) -> u8
@@ -105,7 +117,7 @@ pub fn read_through(table: &mut [Word], work: &mut [Word], image: &[u8]) -> u8
     requires zeros { ⌜ now work ≡ replicate (length (now table)) 0 ⌝ }
     ensures promise { λ r. ⌜ ReadPromise (now (table .entry)) (now (image .entry)) r (now (table .exit)) ⌝ }
 {
-    fill_words(FORM, work, image);
+    store_words(work, image);
     let answer = check(work);
     if answer == BAD_LAYOUT {
         return MALFORMED;

@@ -1,26 +1,20 @@
 -- What is proved of the host's call: which refusals its steps can give, that a refusal leaves all as it was, and that the output
 -- reads back. All that is known of its number r and the bytes v that it leaves is its contract, `HostPromise`. Assumes nothing.
-use Prim.Native.Nat.{ℕ, _≤_}
+use Prim.Native.Nat.{ℕ}
 use mathlib.Core.Path.{_≡_, refl, sym, ap, _∙_}
-use mathlib.Core.Bool.{false, _||_}
 use mathlib.Core.List.{List}
-use native.Mathlib.Omega.{arith}
-use lib.Dec.{ltb, leb}
+use lib.Dec.{ltb}
 use lib.ListN.{length, take}
 use Rattle.rdfs.specs.Numbers.{product}
-use Rattle.rdfs.specs.Words.{filled}
-use Rattle.rdfs.specs.Refusals.{orElse, badSize, inconsistent, tableRefusal}
-use Rattle.rdfs.specs.Register.{Table}
+use Rattle.rdfs.specs.Refusals.{orElse, inconsistent}
 use Rattle.rdfs.proofs.tickets.Steps.{table-passes}
-use Rattle.table.proofs.Filled.{filled-within}
 use Rattle.contents.specs.ImageForm.{form}
 use Rattle.contents.specs.Reading.{wordsOf}
 use Rattle.writing.specs.WritePromise.{tableImage, writeAnswer}
-use Rattle.reading.specs.ReadPromise.{imageRefusal, readAnswer, readWords, ReadPromise}
-use Rattle.image.proofs.ImageTheorems.{image-reads-back, table-reads-back}
+use Rattle.reading.specs.ReadPromise.{imageRefusal, readAnswer, ReadPromise}
 use Rattle.vimelosa.specs.Host.{answerIn, addedIn, removedIn, lengthIn, room, applied, hostAnswer, HostPromise}
 use Rattle.vimelosa.proofs.HostWays.{applied-table}
-use Rattle.vimelosa.proofs.Saved.{accepted, left-length, saved-image, refused}
+use Rattle.vimelosa.proofs.Saved.{reads-back, accepted, left-length, saved-image, refused}
 
 -- Reading: 12, 11 or 3. Refusal 1 cannot come, for the room is the call's own.
 pub read-refusals : (image : List ℕ) → readAnswer room image ≡ imageRefusal image (product .most)
@@ -49,15 +43,8 @@ module _ (image ticket output : List ℕ) (r : ℕ) (v : List ℕ) (p : HostProm
   host-output-reads-back e u h n w q =
       let left : List ℕ = applied image ticket .table in
       let a = accepted image ticket output (ap answerIn (sym (p .0)) ∙ e) in
-      let table : Table product left = applied-table image ticket (a .read) in
-      let passes : 0 ≡ tableRefusal product left 0 = sym (table-passes product left table 0) in
-      let size : badSize product u ≡ false = ap (λ m. leb m 0 || ltb (product .most) m) h in
-      let long : length left ≡ product .most = left-length image ticket output in
-      let fits : length (filled left) ≤ length u = omega (arith, h, filled-within product left (table .laid), long) in
       let number : ℕ = hostAnswer image ticket output in
       let cut : take (lengthIn r) v ≡ take (lengthIn number) v = ap (λ m. take (lengthIn m) v) (p .0) in
       let same : take (lengthIn r) v ≡ tableImage left =
-      cut ∙ (ap (take (lengthIn number)) (p .1) ∙ saved-image image ticket output a) in (
-        q .0 ∙ (ap (readAnswer u) same ∙ sym (image-reads-back left u passes size fits .0)),
-        q .1 ∙ (ap (readWords u) same ∙ sym (table-reads-back left u passes size (long ∙ sym h))),
-      )
+      cut ∙ (ap (take (lengthIn number)) (p .1) ∙ saved-image image ticket output a) in
+      reads-back (applied-table image ticket (a .read)) (left-length image ticket output) u h same n w q

@@ -17,18 +17,19 @@ use Rattle.ticket.specs.Answered.{Answered}
 use Rattle.ticket.specs.declared.answer.Applied.{Applied}
 use Rattle.vimelosa.specs.Host.{packed, refusedElse, room, applied, hostAnswer, hostOutput, HostPromise}
 
--- A refusal is the answer, and for 0 what comes after; the bytes likewise.
-pub refused-is : (n rest : ℕ) → (n ≡ 0 → ⊥) → refusedElse n rest ≡ packed n 0 0 0
-refused-is n rest h = ap (λ b. cond b rest (packed n 0 0 0)) (ne-eqb n 0 h)
-
-pub passed-is : (n rest : ℕ) → n ≡ 0 → refusedElse n rest ≡ rest
-passed-is n rest e = ap (λ b. cond b rest (packed n 0 0 0)) (eq-eqb n 0 e)
-
-pub refused-keeps : (n : ℕ) (new old : List ℕ) → (n ≡ 0 → ⊥) → cond (eqb n 0) new old ≡ old
+-- By a refusal, what was there is kept; for 0 the new is left.
+pub refused-keeps : {A : Type 0} (n : ℕ) (new old : A) → (n ≡ 0 → ⊥) → cond (eqb n 0) new old ≡ old
 refused-keeps n new old h = ap (λ b. cond b new old) (ne-eqb n 0 h)
 
-pub passed-leaves : (n : ℕ) (new old : List ℕ) → n ≡ 0 → cond (eqb n 0) new old ≡ new
+pub passed-leaves : {A : Type 0} (n : ℕ) (new old : A) → n ≡ 0 → cond (eqb n 0) new old ≡ new
 passed-leaves n new old e = ap (λ b. cond b new old) (eq-eqb n 0 e)
+
+-- A refusal is the answer, and for 0 what comes after.
+pub refused-is : (n rest : ℕ) → (n ≡ 0 → ⊥) → refusedElse n rest ≡ packed n 0 0 0
+refused-is n rest = refused-keeps n rest (packed n 0 0 0)
+
+pub passed-is : (n rest : ℕ) → n ≡ 0 → refusedElse n rest ≡ rest
+passed-is n rest = passed-leaves n rest (packed n 0 0 0)
 
 -- Words that were read are a consistent table.
 pub read-table : (image : List ℕ) (n : ℕ) {w : List ℕ} → n ≡ readAnswer room image → n ≡ 0 → w ≡ readWords room image

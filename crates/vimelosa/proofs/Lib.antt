@@ -1,6 +1,15 @@
--- HostWays: each way through `vimelosa_apply`. Saved: what its number says and what it leaves in the output. HostTheorems: what
--- is proved from its promise. HostTied: the contract in the source is that promise.
+-- HostWays, HostListWays, CheckWays: each way through `vimelosa_apply`, `vimelosa_apply_list` and `vimelosa_check`. HostListLaws:
+-- the parts of the list call. Saved: what a call's number says, and what `vimelosa_apply` leaves in the output. HostSingles: single
+-- calls one after another. HostTheorems, HostListTheorems, HostCheckTheorems: what is proved from the promises. HostTied,
+-- HostListTied: the contracts in the source are those promises.
 pub mod HostWays
+pub mod HostListLaws
+pub mod HostListWays
+pub mod CheckWays
 pub mod Saved
+pub mod HostSingles
 pub mod HostTheorems
+pub mod HostListTheorems
+pub mod HostCheckTheorems
 mod HostTied
+mod HostListTied

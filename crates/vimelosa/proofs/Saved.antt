@@ -1,50 +1,58 @@
--- What the call's number says and what it leaves in the output. Refused: only the answer, and the bytes as they were. Accepted:
--- the image of what the ticket left, in the length that it answers. Assumes nothing.
+-- What a call's number says, and what the host's call leaves in the output. Refused: only the answer, and the bytes as they were.
+-- Accepted: the image of what the ticket left, in the length that it answers. Assumes nothing.
 use Prim.Native.Nat.{ℕ, _≤_, _<_}
 use mathlib.Core.Path.{_≡_, refl, sym, ap, subst, _∙_}
-use mathlib.Core.Bool.{Bool, true, false, not, cond}
+use mathlib.Core.Bool.{Bool, true, false, not, _||_, cond}
 use mathlib.Core.List.{List, _++_}
 use native.Mathlib.Omega.{arith}
 use native.Mathlib.Decide.{ℕ-discrete}
-use lib.Dec.{eqb, ltb, lit<}
+use lib.Dec.{eqb, ltb, leb, lit<}
 use lib.ListN.{length, take, drop}
 use Rattle.rdfs.specs.Numbers.{product}
 use Rattle.rdfs.specs.Lists.{member}
 use Rattle.rdfs.specs.Words.{filled, facts, words}
 use Rattle.rdfs.specs.Tickets.{Ticket, decoded, badLength, badOperation, badKind, badIds, guarded, unknownProperty, clashing}
 use Rattle.rdfs.specs.Refusals.{orElse, badSize, badLayout, inconsistent, tableRefusal, tooMany}
-use Rattle.rdfs.specs.Register.{Answer}
+use Rattle.rdfs.specs.Register.{Answer, Table}
 use Rattle.rdfs.proofs.lists.Filters.{filter-split}
 use Rattle.rdfs.proofs.tickets.TicketRefusals.{new, passed}
-use Rattle.rdfs.proofs.tickets.Steps.{step-number, accepted-leaves, room-fits, step-length}
+use Rattle.rdfs.proofs.tickets.Steps.{table-passes, step-number, accepted-leaves, room-fits, step-length}
 use Rattle.table.proofs.Filled.{filled-within}
 use Rattle.contents.specs.ImageForm.{form}
 use Rattle.contents.specs.Reading.{wordsOf, malformed}
 use Rattle.writing.specs.WritePromise.{tableImage, writeAnswer, writeLength, writeBytes}
 use Rattle.writing.proofs.WriteCall.{write-taken}
-use Rattle.reading.specs.ReadPromise.{readAnswer, readWords}
+use Rattle.reading.specs.ReadPromise.{readAnswer, readWords, ReadPromise}
 use Rattle.reading.proofs.ReadCall.{read-length}
+use Rattle.image.proofs.ImageTheorems.{image-reads-back, table-reads-back}
 use Rattle.vimelosa.specs.Host.{sixteenBits, packed, answerIn, addedIn, removedIn, lengthIn}
 use Rattle.vimelosa.specs.Host.{refusedElse, room, applied, hostAnswer, hostOutput}
 use Rattle.vimelosa.proofs.HostWays.{refused-is, passed-is, passed-leaves, read-table}
 
 -- A refusal fits its field.
-else-small : (b : Bool) (n rest : ℕ) → n < sixteenBits → rest < sixteenBits → orElse b n rest < sixteenBits
+pub else-small : (b : Bool) (n rest : ℕ) → n < sixteenBits → rest < sixteenBits → orElse b n rest < sixteenBits
 else-small true n rest p q = p
 else-small false n rest p q = q
 
+-- So does a refusal of reading.
+pub read-small : (image : List ℕ) → readAnswer room image < sixteenBits
+read-small image =
+    let l : List ℕ = wordsOf product form image in
+    else-small (malformed product form image) 12 _ (lit< tt) (else-small (ltb (product .most) (length l)) 11 _ (lit< tt)
+    (else-small (inconsistent product l) 3 0 (lit< tt) (lit< tt)))
+
 -- An answer of 0 is not a refusal's.
-accepted-passes : (n rest : ℕ) → n < sixteenBits → answerIn (refusedElse n rest) ≡ 0 → (n ≡ 0) × (refusedElse n rest ≡ rest)
+pub accepted-passes : (n rest : ℕ) → n < sixteenBits → answerIn (refusedElse n rest) ≡ 0 → (n ≡ 0) × (refusedElse n rest ≡ rest)
 accepted-passes n rest h e = elim (ℕ-discrete n 0) [
   | yes z ↦ (z, passed-is n rest z)
   | no q ↦ let own : n ≡ answerIn (packed n 0 0 0) = omega (arith, h) in
       absurd (q (own ∙ (ap answerIn (sym (refused-is n rest q)) ∙ e)))
 ]
 
-packed-answer : (a r l : ℕ) → answerIn (packed 0 a r l) ≡ 0
+pub packed-answer : (a r l : ℕ) → answerIn (packed 0 a r l) ≡ 0
 packed-answer a r l = omega arith
 
-packed-length : (a r l : ℕ) → a < sixteenBits → r < sixteenBits → lengthIn (packed 0 a r l) ≡ l
+pub packed-length : (a r l : ℕ) → a < sixteenBits → r < sixteenBits → lengthIn (packed 0 a r l) ≡ l
 packed-length a r l p q = omega (arith, p, q)
 
 -- The bytes v are those that stood there, and a number r tells nothing but its answer.
@@ -52,10 +60,22 @@ abbrev pub Kept : List ℕ → ℕ → List ℕ → Type 0
 Kept output r v = (v ≡ output) × (addedIn r ≡ 0) × (removedIn r ≡ 0) × (lengthIn r ≡ 0)
 
 -- One step: its refusal, or what comes after if there it is so.
-kept-else : (b : Bool) (n rest : ℕ) (new old : List ℕ) → n < sixteenBits → ((answerIn rest ≡ 0 → ⊥) → Kept old rest new)
+pub kept-else : (b : Bool) (n rest : ℕ) (new old : List ℕ) → n < sixteenBits → ((answerIn rest ≡ 0 → ⊥) → Kept old rest new)
     → (answerIn (cond b rest (packed n 0 0 0)) ≡ 0 → ⊥) → Kept old (cond b rest (packed n 0 0 0)) (cond b new old)
 kept-else true n rest new old h k a = k a
 kept-else false n rest new old h k a = (refl, omega (arith, h), omega (arith, h), omega (arith, h))
+
+-- The image of a consistent table of 2,048 words is read into any table u of as many: n is what `read` answers, and w the words
+-- that it leaves.
+pub reads-back : {left image : List ℕ} → Table product left → length left ≡ product .most → (u : List ℕ)
+    → length u ≡ product .most → image ≡ tableImage left → (n : ℕ) (w : List ℕ) → ReadPromise u image n w → (n ≡ 0) × (w ≡ left)
+reads-back {left} table long u h e n w q =
+    let passes : 0 ≡ tableRefusal product left 0 = sym (table-passes product left table 0) in
+    let size : badSize product u ≡ false = ap (λ m. leb m 0 || ltb (product .most) m) h in
+    let fits : length (filled left) ≤ length u = omega (arith, h, filled-within product left (table .laid), long) in (
+      q .0 ∙ (ap (readAnswer u) e ∙ sym (image-reads-back left u passes size fits .0)),
+      q .1 ∙ (ap (readWords u) e ∙ sym (table-reads-back left u passes size (long ∙ sym h))),
+    )
 
 module _ (image ticket output : List ℕ) where
   abbrev s : Answer
@@ -71,18 +91,12 @@ module _ (image ticket output : List ℕ) where
     pub write : writeAnswer (s .table) output ≡ 0
     pub answer : hostAnswer image ticket output ≡ packed 0 (s .added) (s .removed) (writeLength (s .table) output)
 
-  read-small : readAnswer room image < sixteenBits
-  read-small =
-      let l : List ℕ = wordsOf product form image in
-      else-small (malformed product form image) 12 _ (lit< tt) (else-small (ltb (product .most) (length l)) 11 _ (lit< tt)
-      (else-small (inconsistent product l) 3 0 (lit< tt) (lit< tt)))
-
   -- 1 to 3 of a table, then others.
   table-small : (t : List ℕ) (rest : ℕ) → rest < sixteenBits → tableRefusal product t rest < sixteenBits
   table-small t rest h = else-small (badSize product t) 1 _ (lit< tt) (else-small (badLayout product t) 2 _ (lit< tt)
       (else-small (inconsistent product t) 3 rest (lit< tt) h))
 
-  number-small : s .number < sixteenBits
+  pub number-small : s .number < sixteenBits
   unfolding applied
   number-small =
       let t : Ticket = decoded ticket in
@@ -102,7 +116,7 @@ module _ (image ticket output : List ℕ) where
   accepted e =
       let counts : ℕ = packed 0 (s .added) (s .removed) (writeLength (s .table) output) in
       let later : ℕ = refusedElse (writeAnswer (s .table) output) counts in
-      let a = accepted-passes (readAnswer room image) (refusedElse (s .number) later) read-small e in
+      let a = accepted-passes (readAnswer room image) (refusedElse (s .number) later) (read-small image) e in
       let b = accepted-passes (s .number) later number-small (ap answerIn (sym (a .1)) ∙ e) in
       let c = accepted-passes (writeAnswer (s .table) output) counts write-small (ap answerIn (sym (a .1 ∙ b .1)) ∙ e) in
       record { read = a .0; number = b .0; write = c .0; answer = a .1 ∙ (b .1 ∙ c .1) }
@@ -153,4 +167,4 @@ module _ (image ticket output : List ℕ) where
       kept-else (eqb n 0) n counts out output write-small (λ h. absurd (h (packed-answer (s .added) (s .removed) long))) in
       let by-ticket = kept-else (eqb (s .number) 0) (s .number) later left output number-small by-writing in
       kept-else (eqb (readAnswer room image) 0) (readAnswer room image) (refusedElse (s .number) later)
-      (cond (eqb (s .number) 0) left output) output read-small by-ticket
+      (cond (eqb (s .number) 0) left output) output (read-small image) by-ticket

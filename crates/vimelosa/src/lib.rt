@@ -1,28 +1,26 @@
-// The host's call across the C interface: an image, a ticket and an output; read, apply, write.
+// The host's calls across the C interface: read an image, run one ticket or a list on it, write the image of
+// what is left; say of an image what is wrong with it.
 //
-// The public call is `vimelosa_apply`. It has no `requires`: it says, for all bytes of the three, the number
-// it answers and every byte of the output afterwards, through the definitions of reading, of the ticket and
-// of writing. The crate assumes nothing.
+// The public calls are `vimelosa_apply`, `vimelosa_apply_list` and `vimelosa_check`. They have no `requires`:
+// each says, for all bytes, the number that it answers and every byte that it leaves, through the definitions
+// of reading, of the tickets and of writing. The crate assumes nothing.
 //
-// The table that the image is read into is the call's own: 8 KB of stack, beside those of the steps. It is
-// checked once, by reading.
-ghost use mathlib.Core.Path.{_≡_};
-ghost use Rattle.vimelosa.specs.Host.{packed, HostPromise};
+// The table that an image is read into is the call's own: 8 KB of stack, beside those of the steps. It is
+// checked once, by reading. A list with a short output is read twice, each time into a table that is gone
+// before the other is there.
+mod check_call;
+mod list_call;
+mod number;
+
+pub use check_call::vimelosa_check;
+pub use list_call::vimelosa_apply_list;
+ghost use Rattle.vimelosa.specs.Host.{HostPromise};
 use image::read;
 use image::write_checked;
+use number::pack;
 use table::MOST;
 use table::Word;
 use ticket::apply_checked;
-
-// The values of a number of 16 bits.
-const FIELD: u64 = 65536;
-
-// Four numbers of 16 bits each, lowest first.
-fn pack(answer: u8, added: u16, removed: u16, length: u16) -> u64
-    ensures answer { λ r. ⌜ r ≡ packed answer added removed length ⌝ }
-{
-    answer as u64 + FIELD * (added as u64 + FIELD * (removed as u64 + FIELD * length as u64))
-}
 
 // Reads the image into 2,048 words, applies the ticket to them, writes the image of what it left. Answers the
 // number, the facts added, the facts removed and the image's length. Refused as the steps refuse, in their

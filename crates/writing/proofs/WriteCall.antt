@@ -1,4 +1,4 @@
--- The answers of writing, and the bytes that it leaves. Assumes nothing.
+-- The answers of writing, the length that it takes, and the bytes that it leaves. Assumes nothing.
 use Prim.Native.Nat.{ℕ, _+_, _≤_, _<_}
 use mathlib.Core.Path.{_≡_, refl, sym, ap, _∙_}
 use mathlib.Core.Bool.{true, false, cond}
@@ -20,15 +20,23 @@ use Rattle.table.proofs.TestAnswers.{is-false}
 use Rattle.contents.specs.ImageForm.{form, firstBody}
 use Rattle.contents.specs.Image.{idBytes}
 use Rattle.writing.specs.WritePromise.{tableImage, writeAnswer, writeLength, writeBytes, WritePromise}
-use Rattle.writing.specs.KindEnds.{contentsBy, KindEndsOf}
+use Rattle.writing.specs.KindEnds.{contentsBy, lengthBy, KindEnds, KindEndsOf}
 use Rattle.writing.specs.Writing.{Writing}
 use Rattle.contents.proofs.Product.{complete}
 use Rattle.writing.proofs.Measuring.{image-whole}
-use Rattle.writing.proofs.EndsLaws.{contents-long, ends-contents}
+use Rattle.writing.proofs.EndsLaws.{contents-long, ends-contents, ends-length, ends-ready}
 
 pub table-writing : {t : List ℕ} → Table product t → (n : ℕ) → n ≡ length (filled t) → Writing form t n
 table-writing h n q =
     record { form = complete; writable = record { counted = record { laid = h .laid; size = q }; few = h .fits } }
+
+-- The ends of the kinds of a consistent table: they can be written by, and the length by them is the image's.
+module _ {t ends : List ℕ} {n : ℕ} (h : Table product t) (q : n ≡ length (filled t)) (e : KindEndsOf form t n ends) where
+  pub table-ready : KindEnds form ends
+  table-ready = ends-ready (table-writing h n q) e
+
+  pub table-length : {size : ℕ} → size ≡ lengthBy form ends → size ≡ length (tableImage t)
+  table-length s = s ∙ ends-length (table-writing h n q) e
 
 module _ (t out : List ℕ) where
   refused : (n : ℕ) → n ≡ writeAnswer t out → (n ≡ 0 → ⊥) → WritePromise t out (record { answer = n; length = 0 }) out

@@ -1,11 +1,14 @@
 // The image of a table, written into lent bytes.
 //
 // The public call is `write`, which crate `image` passes on. It has no `requires`: it says, for all inputs,
-// what it answers and every byte afterwards. `write_checked` serves the crates above: writing without the
-// check. It requires a consistent table. The crate assumes nothing.
+// what it answers and every byte afterwards. `write_checked` and `length_checked` serve the crates above:
+// writing without the check, and the length that it takes. They require a consistent table. The crate assumes
+// nothing.
+ghost use mathlib.Core.Path.{_≡_};
+ghost use lib.ListN.{length};
 ghost use Rattle.rdfs.specs.Numbers.{product};
 ghost use Rattle.rdfs.specs.Register.{Table};
-ghost use Rattle.writing.specs.WritePromise.{WritePromise};
+ghost use Rattle.writing.specs.WritePromise.{tableImage, WritePromise};
 
 mod writer;
 
@@ -42,7 +45,7 @@ pub fn write(table: &[Word], output: &mut [u8]) -> Written
     write_checked(table, output)
 }
 
-// The same for a table known to be consistent: only 13 can come.
+// Writes the image of a table known to be consistent. Only 13 can come.
 pub fn write_checked(table: &[Word], output: &mut [u8]) -> Written
     requires table { ⌜ Table product (now table) ⌝ }
     ensures promise { λ r. ⌜ WritePromise (now (table .entry)) (now (output .entry)) r
@@ -64,4 +67,15 @@ pub fn write_checked(table: &[Word], output: &mut [u8]) -> Written
         answer: 0,
         length: length as u16,
     }
+}
+
+// The length of the image of a table known to be consistent.
+pub fn length_checked(table: &[Word]) -> usize
+    requires table { ⌜ Table product (now table) ⌝ }
+    ensures answer { λ r. ⌜ r ≡ length (tableImage (now (table .entry))) ⌝ }
+{
+    let count = count_facts(table);
+    let mut ends: [usize; ENDS] = [0; ENDS];
+    find_ends(FORM, table, count, &mut ends);
+    image_length(FORM, &ends)
 }

@@ -8,9 +8,17 @@ use lib.ListN.{length}
 use Rattle.rdfs.specs.Words.{filled}
 use Rattle.contents.proofs.Product.{complete}
 use Rattle.writing.specs.WritePromise.{tableImage}
-use Rattle.writing.proofs.EndsLaws.{ends-own, ends-length, ends-ready}
+use Rattle.writing.proofs.EndsLaws.{ends-own}
 use Rattle.writing.proofs.Measuring.{image-whole}
-use Rattle.writing.proofs.WriteCall.{table-writing, write-short, write-done, stored-first, stored-after}
+use Rattle.writing.proofs.WriteCall.{
+  table-writing,
+  table-ready,
+  table-length,
+  write-short,
+  write-done,
+  stored-first,
+  stored-after,
+}
 use borrow.Author.Needs.{needs}
 use Rattle.writing.proofs.write_checked.Statement.{statement}
 use Rattle.writing.proofs.write_checked.Tie as tie
@@ -34,17 +42,17 @@ image-length-requires c κs =
     let at-find-ends = c .before .before in
     let at-count-facts = at-find-ends .before .before in
     let s = at-count-facts .before .before .before in
-    ends-ready (table-writing (s .pre) (at-count-facts .count-facts .result) (at-count-facts .count-facts .ensures))
-    (at-find-ends .find-ends .ensures)
+    table-ready (s .pre) (at-count-facts .count-facts .ensures) (at-find-ends .find-ends .ensures)
 
 returns : tie.Need-returns
 returns c =
     let at-find-ends = c .before .before .before .before in
     let at-count-facts = at-find-ends .before .before in
     let s = at-count-facts .before .before .before in
-    let writing = table-writing (s .pre) (at-count-facts .count-facts .result) (at-count-facts .count-facts .ensures) in
-    write-short (s .args .table .now) (s .args .output .now) (s .pre) (subst (λ m. length (s .args .output .now) < m)
-    (c .before .image-length .ensures ∙ ends-length writing (at-find-ends .find-ends .ensures)) (c .if1 .taken))
+    let size = table-length (s .pre) (at-count-facts .count-facts .ensures) (at-find-ends .find-ends .ensures)
+    (c .before .image-length .ensures) in
+    write-short (s .args .table .now) (s .args .output .now) (s .pre)
+    (subst (λ m. length (s .args .output .now) < m) size (c .if1 .taken))
 
 slice-aggregate-put-contents : tie.Need-slice-aggregate-put-contents
 slice-aggregate-put-contents c = search needs
@@ -58,8 +66,9 @@ put-contents-requires c κs =
     let s = at-count-facts .before .before .before in
     let t = s .args .table .now in
     let writing = table-writing (s .pre) (at-count-facts .count-facts .result) (at-count-facts .count-facts .ensures) in
-    let size = at-image-length .image-length .ensures ∙ ends-length writing (at-find-ends .find-ends .ensures) in (
-      ends-ready writing (at-find-ends .find-ends .ensures),
+    let size = table-length (s .pre) (at-count-facts .count-facts .ensures) (at-find-ends .find-ends .ensures)
+    (at-image-length .image-length .ensures) in (
+      table-ready (s .pre) (at-count-facts .count-facts .ensures) (at-find-ends .find-ends .ensures),
       omega (
         arith,
         size,
@@ -81,7 +90,8 @@ put-bodies-requires c κs =
     let s = at-count-facts .before .before .before in
     let t = s .args .table .now in
     let writing = table-writing (s .pre) (at-count-facts .count-facts .result) (at-count-facts .count-facts .ensures) in
-    let size = at-image-length .image-length .ensures ∙ ends-length writing (at-find-ends .find-ends .ensures) in
+    let size = table-length (s .pre) (at-count-facts .count-facts .ensures) (at-find-ends .find-ends .ensures)
+    (at-image-length .image-length .ensures) in
     record {
       writing = table-writing (s .pre) (length (filled t)) refl;
       found = ends-own (at-count-facts .count-facts .ensures) (at-find-ends .find-ends .ensures);
@@ -96,8 +106,7 @@ cast-t22 c =
     let at-find-ends = at-image-length .before .before .before in
     let at-count-facts = at-find-ends .before .before in
     let s = at-count-facts .before .before .before in
-    let ready = ends-ready (table-writing (s .pre) (at-count-facts .count-facts .result) (at-count-facts .count-facts .ensures))
-    (at-find-ends .find-ends .ensures) in
+    let ready = table-ready (s .pre) (at-count-facts .count-facts .ensures) (at-find-ends .find-ends .ensures) in
     omega (arith, at-image-length .image-length .ensures, ready .long)
 
 same-length : tie.Need-same-length
@@ -115,11 +124,11 @@ returns-2 c =
     let t : List ℕ = s .args .table .now in
     let out : List ℕ = s .args .output .now in
     let writing = table-writing (s .pre) (at-count-facts .count-facts .result) (at-count-facts .count-facts .ensures) in
-    let size = at-image-length .image-length .ensures ∙ ends-length writing (at-find-ends .find-ends .ensures) in
+    let size = table-length (s .pre) (at-count-facts .count-facts .ensures) (at-find-ends .find-ends .ensures)
+    (at-image-length .image-length .ensures) in
     write-done t out (s .pre) (subst (λ m. m ≤ length out) size (at-if1 .if1 .left)) (at-image-length .image-length .result)
-    size _
-    (at-put-bodies .put-bodies .ensures ∙ ap (λ m. tableImage t ++ m) (stored-after writing (at-find-ends .find-ends .ensures)
-    out _ (at-put-contents .put-contents .ensures)))
+    size _ (at-put-bodies .put-bodies .ensures ∙ ap (λ m. tableImage t ++ m)
+    (stored-after writing (at-find-ends .find-ends .ensures) out _ (at-put-contents .put-contents .ensures)))
 
 pub write-checked-spec : {M : Type 1} → statement M
 write-checked-spec =

@@ -1,6 +1,6 @@
--- `visit::visit` meets its contract. The loop's invariant: each rule before place `at` is met. The measure is the number of rules
--- left. Assumes nothing.
-use Prim.Native.Nat.{_-_}
+-- `visit::visit` meets its contract. The loop's invariant: `at` is a place of the rules or their end, and each rule before it is
+-- met. The measure is the number of rules left. Assumes nothing.
+use Prim.Native.Nat.{_-_, _≤_}
 use native.Mathlib.Omega.{arith}
 use lib.ListN.{length}
 use borrow.Author.Needs.{needs}
@@ -9,18 +9,18 @@ use Rattle.rdfs.specs.Rules.{Meets}
 use Rattle.spans.specs.Graphs.{graphOf}
 use Rattle.consistency.specs.Order.{rulesInOrder, ruleAt}
 use Rattle.spans.proofs.Decided.{decided-met, decided-broken}
-use Rattle.consistency.proofs.Visiting.{MetBefore, visit-none, visit-more, visit-stops, visit-ends, visit-earlier}
+use Rattle.consistency.proofs.Visiting.{MetBefore, visit-none, visit-more, visit-stops, visit-earlier}
 use Rattle.consistency.proofs.visit.visit.Statement.{statement}
 use Rattle.consistency.proofs.visit.visit.Tie as tie
 
 abbrev Inv-loop : tie.InvT-loop
-Inv-loop table index at₀ at = MetBefore (graphOf table) rulesInOrder at
+Inv-loop table index at₀ at = (at ≤ length rulesInOrder) × MetBefore (graphOf table) rulesInOrder at
 
 abbrev μ-loop : tie.MeasureT-loop
 μ-loop table index at₀ at = length rulesInOrder - at
 
 loop-holds : tie.Need-loop-holds Inv-loop μ-loop
-loop-holds c = visit-none (graphOf (now (c .before .before .args .table))) rulesInOrder
+loop-holds c = (omega arith, visit-none (graphOf (now (c .before .before .args .table))) rulesInOrder)
 
 rule-at-requires : tie.Need-rule-at-requires Inv-loop μ-loop
 rule-at-requires c κs = search needs
@@ -31,7 +31,7 @@ meets-requires c κs =
     let entry = at-loop .before .before .before in (
       entry .pre,
       rw (c .rule-at .ensures) (visit-earlier (graphOf (now (entry .args .table))) (at-loop .loop .at)
-          (c .before .loop-test .taken) (at-loop .loop .inv)),
+          (c .before .loop-test .taken) (at-loop .loop .inv .1)),
     )
 
 returns : tie.Need-returns Inv-loop μ-loop
@@ -41,9 +41,8 @@ returns c =
     let G = graphOf (now (entry .args .table)) in
     let i = at-loop .loop .at in
     let answer = rw (c .before .before .rule-at .ensures) at (c .before .meets .ensures) in
-    rw (c .before .before .rule-at .ensures)
-    (visit-stops G rulesInOrder i (c .before .before .before .loop-test .taken) (at-loop .loop .inv)
-    (decided-broken (c .before .meets .result) (Meets G (ruleAt rulesInOrder i)) answer (c .if1 .taken)))
+    visit-stops G rulesInOrder i (at-loop .loop .inv .0) (at-loop .loop .inv .1)
+    (λ h. decided-broken (c .before .meets .result) (Meets G (ruleAt rulesInOrder i)) answer (c .if1 .taken))
 
 add-at : tie.Need-add-at Inv-loop μ-loop
 add-at c = omega arith
@@ -57,14 +56,17 @@ loop-again c =
     let entry = at-loop .before .before .before in
     let G = graphOf (now (entry .args .table)) in
     let i = at-loop .loop .at in
-    let answer = rw (c .before .before .rule-at .ensures) at (c .before .meets .ensures) in
-    visit-more G rulesInOrder i (at-loop .loop .inv) (decided-met (c .before .meets .result) (Meets G (ruleAt rulesInOrder i))
-    answer (c .if1 .left))
+    let answer = rw (c .before .before .rule-at .ensures) at (c .before .meets .ensures) in (
+      omega arith,
+      visit-more G rulesInOrder i (at-loop .loop .inv .1)
+          (decided-met (c .before .meets .result) (Meets G (ruleAt rulesInOrder i)) answer (c .if1 .left)),
+    )
 
 returns-2 : tie.Need-returns-2 Inv-loop μ-loop
 returns-2 c =
     let entry = c .before .before .before .before in
-    visit-ends (graphOf (now (entry .args .table))) rulesInOrder (c .before .loop .at) (c .loop-test .left) (c .before .loop .inv)
+    visit-stops (graphOf (now (entry .args .table))) rulesInOrder (c .before .loop .at) (c .before .loop .inv .0)
+    (c .before .loop .inv .1) (λ h. absurd (omega (arith, h, c .loop-test .left)))
 
 pub visit-spec : {M : Type 1} → statement M
 visit-spec =

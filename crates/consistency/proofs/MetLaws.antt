@@ -1,0 +1,50 @@
+-- The rules of a list that are met before the first that is broken: how many there are at most, that they are one number, and
+-- what it says of all rules and of the first that is broken. Assumes nothing.
+use Prim.Native.Nat.{ℕ, zero, suc, _≤_, _<_}
+use mathlib.Core.Path.{_≡_, refl, ap}
+use mathlib.Core.List.{List, [], _∷_}
+use native.Mathlib.Omega.{arith}
+use lib.ListN.{length}
+use Rattle.rdfs.specs.Facts.{Graph}
+use Rattle.rdfs.specs.Rules.{Rule}
+use Rattle.consistency.specs.Order.{
+  ruleAt,
+  MetFirst,
+  end,
+  stop,
+  pass,
+  MeetsAll,
+  none,
+  also,
+  FirstBroken,
+  here,
+  later,
+}
+
+module _ {G : Graph} where
+  pub met-within : {l : List Rule} {n : ℕ} → MetFirst G l n → n ≤ length l
+  met-within end = omega arith
+  met-within (stop b) = omega arith
+  met-within (pass p m) = omega (arith, met-within m)
+
+  pub met-one : {l : List Rule} {n m : ℕ} → MetFirst G l n → MetFirst G l m → n ≡ m
+  met-one end end = refl
+  met-one (stop b) (stop d) = refl
+  met-one (stop b) (pass p m) = absurd (b p)
+  met-one (pass p m) (stop b) = absurd (b p)
+  met-one (pass p m) (pass q k) = ap suc (met-one m k)
+
+  pub met-all : {l : List Rule} {n : ℕ} → MetFirst G l n → length l ≤ n → MeetsAll G l
+  met-all end h = none
+  met-all (stop b) h = absurd (omega arith)
+  met-all (pass p m) h = also p (met-all m (omega arith))
+
+  pub met-broken : {l : List Rule} {n : ℕ} → MetFirst G l n → n < length l → FirstBroken G (ruleAt l n) l
+  met-broken end h = absurd (omega arith)
+  met-broken (stop b) h = here b
+  met-broken (pass p m) h = later p (met-broken m (omega arith))
+
+  -- A rule that is broken leaves no list of met rules with it.
+  pub broken-not : {l : List Rule} {r : Rule} → FirstBroken G r l → MeetsAll G l → ⊥
+  broken-not (here n) (also p m) = n p
+  broken-not (later k f) (also p m) = broken-not f m

@@ -1,0 +1,38 @@
+-- Single host calls one after another, one for each ticket, each on the image that those before left.
+use Prim.Native.Nat.{ℕ, _+_, _*_, _≤_}
+use mathlib.Core.Bool.{cond}
+use mathlib.Core.List.{List, [], _∷_}
+use lib.Dec.{eqb}
+use lib.ListN.{length, take}
+use Rattle.rdfs.specs.Numbers.{product}
+use Rattle.contents.specs.ImageForm.{form, largestFact, firstBody}
+use Rattle.vimelosa.specs.Host.{answerIn, lengthIn, HostPromise}
+
+-- A call: the output that it is lent, the number that it answers, the bytes that it leaves in the output.
+pub record HostCall : Type 0 where
+  pub output : List ℕ
+  pub number : ℕ
+  pub left : List ℕ
+
+-- It does as `vimelosa_apply` promises, with room for the longest image.
+pub record Called (image ticket : List ℕ) (call : HostCall) : Type 0 where
+  pub promise : HostPromise image ticket (call .output) (call .number) (call .left)
+  pub has-room : firstBody form + largestFact form * product .most ≤ length (call .output)
+
+-- The image for the next call: what it put out if it is accepted, else the same as before.
+abbrev pub imageAfter : List ℕ → HostCall → List ℕ
+imageAfter image call =
+    cond (eqb (answerIn (call .number)) 0) (take (lengthIn (call .number)) (call .left)) image
+
+-- A call for each ticket.
+abbrev pub CalledEach : List ℕ → List (List ℕ) → List HostCall → Type 0
+CalledEach image [] [] = Unit {0}
+CalledEach image [] (call ∷ calls) = ⊥
+CalledEach image (ticket ∷ tickets) [] = ⊥
+CalledEach image (ticket ∷ tickets) (call ∷ calls) =
+    Called image ticket call × CalledEach (imageAfter image call) tickets calls
+
+-- The image after the last of them.
+abbrev pub imageAfterAll : List ℕ → List HostCall → List ℕ
+imageAfterAll image [] = image
+imageAfterAll image (call ∷ calls) = imageAfterAll (imageAfter image call) calls
