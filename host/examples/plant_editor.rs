@@ -1,44 +1,43 @@
 //! The plant editor: members are entered first and the classes are linked late. The order does not matter;
 //! every member is in every class above its own, and the graph is the same as if the tree had been drawn
-//! first.
+//! first. The plant's people speak of names, not of ids.
 
-use vimelosa_host::{Fact, Graph, Refusal, Ticket};
+use std::error::Error;
+use vimelosa_host::{Graph, Names};
 
-const EQUIPMENT: u8 = 2;
-const DRIVE: u8 = 3;
-const MOTOR: u8 = 4;
-const M1: u8 = 20;
-const M2: u8 = 21;
+const NAMES: &str = "2\tequipment\n3\tdrive\n4\tmotor\n20\tm1\n21\tm2\n";
+const MEMBERS: [&str; 2] = ["insert member m1 motor", "insert member m2 drive"];
+const LINKS: [&str; 2] = ["insert subclass motor drive", "insert subclass drive equipment"];
 
-const MEMBERS: [(u8, u8); 2] = [(M1, MOTOR), (M2, DRIVE)];
-const LINKS: [(u8, u8); 2] = [(MOTOR, DRIVE), (DRIVE, EQUIPMENT)];
-
-fn graph_of(tickets: &[Ticket]) -> Result<Graph, Refusal> {
+fn graph_of(names: &Names, lines: &[&str]) -> Result<Graph, Box<dyn Error>> {
     let mut graph = Graph::fresh();
-    for ticket in tickets {
-        let change = graph.apply(*ticket)?;
-        println!("{:02x?} added {}", ticket.bytes(), change.added);
+    for line in lines {
+        let ticket = names.read_ticket(line)?;
+        let change = graph.apply(ticket)?;
+        println!("{}: {} facts added", names.show(ticket), change.added);
     }
     Ok(graph)
 }
 
-fn main() -> Result<(), Refusal> {
-    let members = MEMBERS.map(|(individual, class)| Ticket::insert_member(individual, class));
-    let links = LINKS.map(|(class, superclass)| Ticket::insert_subclass(class, superclass));
+/// The names of the members of a class.
+fn members<'a>(graph: &Graph, names: &'a Names, class: &str) -> Vec<&'a str> {
+    let class = names.id_of(class).expect("the class has a name");
+    graph.members_of(class).filter_map(|member| names.name_of(member)).collect()
+}
 
-    let late = graph_of(&[members, links].concat())?;
-    let early = graph_of(&[links, members].concat())?;
+fn main() -> Result<(), Box<dyn Error>> {
+    let names: Names = NAMES.parse()?;
+    let late = graph_of(&names, &[MEMBERS, LINKS].concat())?;
+    let early = graph_of(&names, &[LINKS, MEMBERS].concat())?;
     assert_eq!(late, early);
-
-    for individual in [M1, M2] {
-        let class = EQUIPMENT;
-        assert!(late.has(Fact::Member { individual, class }));
-    }
     println!("links drawn late or early: the same {} facts", late.count_facts());
+
+    assert_eq!(members(&late, &names, "equipment"), ["m1", "m2"]);
+    assert_eq!(members(&late, &names, "motor"), ["m1"]);
     Ok(())
 }
 
 #[test]
-fn runs() -> Result<(), Refusal> {
+fn runs() -> Result<(), Box<dyn Error>> {
     main()
 }

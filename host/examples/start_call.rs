@@ -1,39 +1,28 @@
-//! The start call: when a container starts, the runtime asks which individuals have its port as value of a
-//! property. All consequences are in the graph already, so the answer is one walk over the values in the
-//! image.
+//! The start call: before a container starts on a port, the runtime finds every container that polls the port
+//! already. All consequences are in the graph, so one look-up also finds those that poll it by a property
+//! under `polls`.
 
-use vimelosa_host::{Fact, Graph, Kind, Range, Refusal, Ticket};
+use vimelosa_host::{Graph, Range, Refusal, Ticket};
 
-const MACHINE: u8 = 2;
+const CONTAINER: u8 = 2;
 const PORT: u8 = 3;
-const CONNECTED_TO: u8 = 10;
-const DRIVEN_BY: u8 = 11;
-const PUMP: u8 = 20;
-const VALVE: u8 = 21;
-const MIXER: u8 = 22;
+const POLLS: u8 = 10;
+const POLLS_FAST: u8 = 11;
+const PUMP_DRIVER: u8 = 20;
+const VALVE_DRIVER: u8 = 21;
+const MIXER_DRIVER: u8 = 22;
 const PORT_A: u8 = 30;
 const PORT_B: u8 = 31;
-
-/// All individuals that have the port as value of a property, each once, ascending.
-fn individuals_at(graph: &Graph, port: u8) -> Vec<u8> {
-    let at_port = |fact| match fact {
-        Fact::Value { individual, value, .. } if value == port => Some(individual),
-        _ => None,
-    };
-    let mut found: Vec<u8> = graph.facts(Kind::Value).filter_map(at_port).collect();
-    found.dedup(); // values ascend by individual
-    found
-}
 
 fn plant() -> Result<Graph, Refusal> {
     let mut graph = Graph::fresh();
     let tickets = [
-        Ticket::insert_property(CONNECTED_TO, MACHINE, Range::class(PORT)?),
-        Ticket::insert_property(DRIVEN_BY, MACHINE, Range::class(PORT)?),
-        Ticket::insert_subproperty(DRIVEN_BY, CONNECTED_TO),
-        Ticket::insert_value(PUMP, PORT_A, DRIVEN_BY),
-        Ticket::insert_value(VALVE, PORT_A, CONNECTED_TO),
-        Ticket::insert_value(MIXER, PORT_B, CONNECTED_TO),
+        Ticket::insert_property(POLLS, CONTAINER, Range::class(PORT)?),
+        Ticket::insert_property(POLLS_FAST, CONTAINER, Range::class(PORT)?),
+        Ticket::insert_subproperty(POLLS_FAST, POLLS),
+        Ticket::insert_value(PUMP_DRIVER, PORT_A, POLLS_FAST),
+        Ticket::insert_value(VALVE_DRIVER, PORT_A, POLLS),
+        Ticket::insert_member(PORT_B, PORT),
     ];
     for ticket in tickets {
         graph.apply(ticket)?;
@@ -41,11 +30,26 @@ fn plant() -> Result<Graph, Refusal> {
     Ok(graph)
 }
 
+/// Starts a container on a port that no other polls. Answers those that do: none if it started.
+fn start(graph: &mut Graph, container: u8, port: u8) -> Result<Vec<u8>, Refusal> {
+    let others: Vec<u8> = graph.holders_of(port, POLLS).filter(|other| *other != container).collect();
+    if others.is_empty() {
+        graph.apply(Ticket::insert_value(container, port, POLLS))?;
+    }
+    Ok(others)
+}
+
 fn main() -> Result<(), Refusal> {
-    let graph = plant()?;
-    let found = individuals_at(&graph, PORT_A);
-    println!("individuals at port {PORT_A}: {found:?}");
-    assert_eq!(found, [PUMP, VALVE]);
+    let mut graph = plant()?;
+    let others = start(&mut graph, MIXER_DRIVER, PORT_A)?;
+    println!("container {MIXER_DRIVER} on port {PORT_A}: polled already by {others:?}");
+    assert_eq!(others, [PUMP_DRIVER, VALVE_DRIVER]);
+    assert_eq!(graph, plant()?);
+
+    let others = start(&mut graph, MIXER_DRIVER, PORT_B)?;
+    println!("container {MIXER_DRIVER} on port {PORT_B}: started");
+    assert_eq!(others, []);
+    assert!(graph.holders_of(PORT_B, POLLS).eq([MIXER_DRIVER]));
     Ok(())
 }
 

@@ -1,6 +1,7 @@
-//! Support: for each ticket of a plant's log, what it added and removed, or why it was refused.
+//! Support: for each ticket of a plant's log, what it added and removed, or why it was refused; and of a
+//! damaged image, which rule its graph breaks.
 
-use vimelosa_host::{Change, Graph, Range, Refusal, Ticket};
+use vimelosa_host::{check_image, Change, Graph, Kind, Range, Refusal, Rule, Ticket};
 
 const PUMP: u8 = 3;
 const MACHINE: u8 = 2;
@@ -16,7 +17,7 @@ fn line(outcome: Result<Change, Refusal>) -> String {
     }
 }
 
-fn main() -> Result<(), Refusal> {
+fn run_log() -> Result<Graph, Refusal> {
     let log = [
         (Ticket::insert_subclass(PUMP, MACHINE), "added 5, removed 0"),
         (Ticket::insert_property(FEEDS, PUMP, Range::class(PUMP)?), "added 3, removed 0"),
@@ -28,9 +29,27 @@ fn main() -> Result<(), Refusal> {
     let mut graph = Graph::fresh();
     for (ticket, expected) in log {
         let report = line(graph.apply(ticket));
-        println!("{:02x?} {report}", ticket.bytes());
+        println!("{ticket}: {report}");
         assert_eq!(report, expected);
     }
+    Ok(graph)
+}
+
+/// The image with the id of its first individual changed to that of a class.
+fn damaged(graph: &Graph) -> Vec<u8> {
+    let mut image = graph.image().to_vec();
+    let place = image.len() - Kind::ALL.iter().skip(2).map(|kind| graph.body(*kind).len()).sum::<usize>();
+    image[place] = MACHINE;
+    image
+}
+
+fn main() -> Result<(), Refusal> {
+    let graph = run_log()?;
+    assert_eq!(check_image(graph.image()), Ok(()));
+
+    let refusal = check_image(&damaged(&graph)).expect_err("the image is damaged");
+    println!("damaged image: {refusal}");
+    assert_eq!(refusal, Refusal::Inconsistent { rule: Rule::R5 });
     Ok(())
 }
 

@@ -1,139 +1,14 @@
-//! Facts and their kinds. A class, property, individual or literal is named by its id, a byte; 0 is
-//! rdfs:Resource, and 1 is the mark Literal, which names none of them.
+//! Facts. A class, property, individual or literal is named by its id, a byte; 0 is rdfs:Resource, and 1 is
+//! the mark Literal, which names none of them.
 
-use crate::Refusal;
+use crate::range::MARK;
+use crate::{Kind, Range};
 
 /// The id of rdfs:Resource, the class of everything.
 pub const RESOURCE: u8 = 0;
 
-/// The mark Literal, in a word, a ticket or an image.
-pub(crate) const MARK: u8 = 1;
-
-/// The ten kinds of facts, with document 01's numbers.
-#[derive(Clone, Copy, PartialEq, Eq, PartialOrd, Ord, Debug)]
-#[repr(u8)]
-pub enum Kind {
-    /// Cl
-    Class = 1,
-    /// Pr
-    Property = 2,
-    /// Ind
-    Individual = 3,
-    /// Lit
-    Literal = 4,
-    /// CSub
-    Subclass = 5,
-    /// PSub
-    Subproperty = 6,
-    /// Dom
-    Domain = 7,
-    /// Rng
-    Range = 8,
-    /// CI
-    Member = 9,
-    /// PI
-    Value = 10,
-}
-
-impl Kind {
-    /// All kinds, in their order in an image.
-    pub const ALL: [Kind; 10] = [
-        Kind::Class,
-        Kind::Property,
-        Kind::Individual,
-        Kind::Literal,
-        Kind::Subclass,
-        Kind::Subproperty,
-        Kind::Domain,
-        Kind::Range,
-        Kind::Member,
-        Kind::Value,
-    ];
-
-    /// Document 01's number.
-    pub fn number(self) -> u8 {
-        self as u8
-    }
-
-    /// How many ids a fact of the kind has, which is its length in an image.
-    pub const fn width(self) -> usize {
-        match self {
-            Kind::Class | Kind::Property | Kind::Individual | Kind::Literal => 1,
-            Kind::Value => 3,
-            _ => 2,
-        }
-    }
-}
-
-/// What the values of a property are. In a word, a ticket or an image it is one id, the mark for literals, so
-/// no class of a range has id 1.
-///
-/// ```
-/// use vimelosa_host::{Fact, Graph, Range, Refusal, Ticket};
-/// let (machine, port, connected_to, serial_number) = (2, 3, 10, 11);
-/// let mut graph = Graph::fresh();
-/// graph.apply(Ticket::insert_property(connected_to, machine, Range::class(port)?))?;
-/// graph.apply(Ticket::insert_property(serial_number, machine, Range::Literal))?;
-/// assert!(graph.has(Fact::Range { property: connected_to, range: Range::class(port)? }));
-/// assert!(graph.has(Fact::Range { property: serial_number, range: Range::Literal }));
-///
-/// assert_eq!(Range::class(1), Err(Refusal::BadIds));
-/// # Ok::<(), Refusal>(())
-/// ```
-#[derive(Clone, Copy, PartialEq, Eq, PartialOrd, Ord, Debug)]
-pub enum Range {
-    /// Literals.
-    Literal,
-    /// Members of a class. Outside this crate [`Range::class`] alone makes it, so that the class is never the
-    /// mark; it is matched as `Range::Class { class, .. }`.
-    #[non_exhaustive]
-    Class {
-        /// The class, whose id is not 1.
-        class: u8,
-    },
-}
-
-impl Range {
-    /// The members of a class. Id 1 is refused with 7 ([`Refusal::BadIds`]), as in a ticket: the mark is no
-    /// class.
-    ///
-    /// ```
-    /// use vimelosa_host::{Range, Refusal};
-    /// assert!(matches!(Range::class(3), Ok(Range::Class { class: 3, .. })));
-    /// assert_eq!(Range::class(1), Err(Refusal::BadIds));
-    /// ```
-    ///
-    /// The variant itself cannot be written:
-    ///
-    /// ```compile_fail
-    /// let range = vimelosa_host::Range::Class { class: 1 };
-    /// ```
-    pub fn class(class: u8) -> Result<Range, Refusal> {
-        match Range::of_id(class) {
-            Range::Literal => Err(Refusal::BadIds),
-            range => Ok(range),
-        }
-    }
-
-    /// The range of an id in a body.
-    pub(crate) fn of_id(id: u8) -> Range {
-        match id {
-            MARK => Range::Literal,
-            class => Range::Class { class },
-        }
-    }
-
-    /// The id in a word or a ticket.
-    pub(crate) fn id(self) -> u8 {
-        match self {
-            Range::Literal => MARK,
-            Range::Class { class } => class,
-        }
-    }
-}
-
-/// One fact of a graph. Two facts are equal if their words are.
-#[derive(Clone, Copy, PartialEq, Eq, PartialOrd, Ord, Debug)]
+/// One fact of a graph. Facts are equal, and ordered, as their words are.
+#[derive(Clone, Copy, PartialEq, Eq, PartialOrd, Ord, Hash, Debug)]
 pub enum Fact {
     /// The id is a class.
     Class(u8),
@@ -191,6 +66,11 @@ pub enum Fact {
 
 impl Fact {
     /// The fact's kind.
+    ///
+    /// ```
+    /// use vimelosa_host::{Fact, Kind};
+    /// assert_eq!(Fact::Class(0).kind(), Kind::Class);
+    /// ```
     pub fn kind(self) -> Kind {
         match self {
             Fact::Class(_) => Kind::Class,
@@ -207,6 +87,11 @@ impl Fact {
     }
 
     /// The fact's ids as document 01 writes them, unused ones 0.
+    ///
+    /// ```
+    /// use vimelosa_host::Fact;
+    /// assert_eq!(Fact::Member { individual: 4, class: 3 }.ids(), [4, 3, 0]);
+    /// ```
     pub fn ids(self) -> [u8; 3] {
         match self {
             Fact::Class(a) | Fact::Property(a) | Fact::Individual(a) | Fact::Literal(a) => [a, 0, 0],
@@ -231,7 +116,7 @@ impl Fact {
         u32::from_be_bytes([self.kind().number(), a, b, c])
     }
 
-    /// The fact of a kind with these ids, as they stand in a body.
+    /// The fact of a kind with these ids, as they stand in a body or a word.
     pub(crate) fn of_ids(kind: Kind, ids: &[u8]) -> Fact {
         let id = |place: usize| ids.get(place).copied().unwrap_or(0);
         let (a, b, c) = (id(0), id(1), id(2));
@@ -246,6 +131,37 @@ impl Fact {
             Kind::Range => Fact::Range { property: a, range: Range::of_id(b) },
             Kind::Member => Fact::Member { individual: a, class: b },
             Kind::Value => Fact::Value { individual: a, value: b, property: c },
+        }
+    }
+
+    /// Whether the mark stands nowhere but as the range of a property.
+    fn has_mark_in_place(self) -> bool {
+        match self {
+            Fact::Range { property, .. } => property != MARK,
+            _ => !self.ids().contains(&MARK),
+        }
+    }
+}
+
+/// The fact of a word, or the word itself where it is no fact: its kind is not 1 to 10, an unused id is not
+/// 0, or the mark stands out of place.
+///
+/// ```
+/// use vimelosa_host::Fact;
+/// assert_eq!(Fact::try_from(0x09_04_03_00), Ok(Fact::Member { individual: 4, class: 3 }));
+/// assert_eq!(Fact::try_from(0x01_01_00_00), Err(0x01_01_00_00));
+/// ```
+impl TryFrom<u32> for Fact {
+    type Error = u32;
+
+    fn try_from(word: u32) -> Result<Fact, u32> {
+        let [number, ids @ ..] = word.to_be_bytes();
+        let kind = Kind::try_from(number).map_err(|_| word)?;
+        let fact = Fact::of_ids(kind, &ids);
+        if fact.word() == word && fact.has_mark_in_place() {
+            Ok(fact)
+        } else {
+            Err(word)
         }
     }
 }

@@ -1,9 +1,7 @@
-//! The one function of the proved library that crosses the C interface, and all `unsafe` code of this
-//! package.
+//! The functions of the proved library that cross the C interface, and all `unsafe` code of this package.
 
+// In Rattle each parameter is a slice, which passes as a pointer and then a length.
 extern "C" {
-    // In Rattle: pub extern "C" fn vimelosa_apply(image: &[u8], ticket: &[u8], output: &mut [u8]) -> u64.
-    // A slice passes as a pointer and then a length.
     fn vimelosa_apply(
         image: *const u8,
         image_length: usize,
@@ -12,13 +10,26 @@ extern "C" {
         output: *mut u8,
         output_length: usize,
     ) -> u64;
+
+    fn vimelosa_apply_list(
+        image: *const u8,
+        image_length: usize,
+        tickets: *const u8,
+        tickets_length: usize,
+        answers: *mut u8,
+        answers_length: usize,
+        output: *mut u8,
+        output_length: usize,
+    ) -> u64;
+
+    fn vimelosa_check(image: *const u8, image_length: usize) -> u64;
 }
 
 /// The host call, with its number as it comes: the answer, the facts added, the facts removed and the length
 /// of the image written, 16 bits each, lowest first. On a refusal the output is as it was.
 ///
 /// ```
-/// use vimelosa_host::{call_raw, Graph, Refusal};
+/// use vimelosa_host::{call_raw, Graph};
 ///
 /// let fresh = Graph::fresh();
 /// let mut output = [0; 66];
@@ -27,8 +38,8 @@ extern "C" {
 ///
 /// let refused = call_raw(fresh.image(), &[1, 7, 2, 0, 0], &mut output);
 /// assert_eq!(refused, 6);
-/// assert_eq!(Refusal::try_from(refused as u16), Ok(Refusal::BadKind));
 /// ```
+#[must_use = "whether the call was refused is told here alone"]
 pub fn call_raw(image: &[u8], ticket: &[u8], output: &mut [u8]) -> u64 {
     // SAFETY: each pointer goes with the length of its slice, and the slices outlive the call. The library
     // keeps no pointer and writes only within `output`, which overlaps neither other slice since it is lent
@@ -43,4 +54,53 @@ pub fn call_raw(image: &[u8], ticket: &[u8], output: &mut [u8]) -> u64 {
             output.len(),
         )
     }
+}
+
+/// The host call for a list of tickets, five bytes each, with its number as it comes: the answer, the tickets
+/// accepted, the tickets refused and the length of the image written, 16 bits each, lowest first. On a
+/// refusal of the call the answers and the output are as they were.
+///
+/// ```
+/// use vimelosa_host::{call_list_raw, Graph};
+///
+/// let fresh = Graph::fresh();
+/// let (mut answers, mut output) = ([99; 3], [0; 66]);
+/// let tickets = [1, 1, 2, 0, 0, 1, 7, 2, 0, 0];
+/// let number = call_list_raw(fresh.image(), &tickets, &mut answers, &mut output);
+/// assert_eq!([0, 16, 32, 48].map(|bits| number >> bits & 0xffff), [0, 1, 1, 66]);
+/// assert_eq!(answers, [0, 6, 99]);
+/// ```
+#[must_use = "whether the call was refused is told here alone"]
+pub fn call_list_raw(image: &[u8], tickets: &[u8], answers: &mut [u8], output: &mut [u8]) -> u64 {
+    // SAFETY: each pointer goes with the length of its slice, and the slices outlive the call. The library
+    // keeps no pointer and writes only within `answers` and `output`, which overlap no other slice since they
+    // are lent as `&mut`. The function's contract has no `requires`.
+    unsafe {
+        vimelosa_apply_list(
+            image.as_ptr(),
+            image.len(),
+            tickets.as_ptr(),
+            tickets.len(),
+            answers.as_mut_ptr(),
+            answers.len(),
+            output.as_mut_ptr(),
+            output.len(),
+        )
+    }
+}
+
+/// The check of an image, with its number as it comes: the answer of reading it, and for answer 3 the place
+/// of the first rule that its graph breaks, 16 bits each, lowest first; the upper 32 bits are 0.
+///
+/// ```
+/// use vimelosa_host::{check_raw, Graph};
+///
+/// assert_eq!(check_raw(Graph::fresh().image()), 0);
+/// assert_eq!(check_raw(&[]), 12);
+/// ```
+#[must_use]
+pub fn check_raw(image: &[u8]) -> u64 {
+    // SAFETY: the pointer goes with the length of its slice, which outlives the call. The library keeps no
+    // pointer and writes nowhere. The function's contract has no `requires`.
+    unsafe { vimelosa_check(image.as_ptr(), image.len()) }
 }

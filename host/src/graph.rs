@@ -1,38 +1,14 @@
 //! A graph, held as its image.
 
-use crate::call::{apply_ticket, Change};
-use crate::fact::{Fact, Kind, RESOURCE};
-use crate::{Refusal, Ticket};
+use crate::call::{apply_ticket, check_image, Change};
+use crate::image::{fresh_image, rows_of, LONGEST_IMAGE};
+use crate::rows::Rows;
+use crate::{AllFacts, Fact, Facts, Kind, Refusal, Ticket};
+use std::fmt;
 
-/// A graph has at most so many facts.
-pub const MOST_FACTS: usize = 2048;
-
-/// The edition of the image's form, its first byte.
-const EDITION: u8 = 1;
-
-/// The header: the edition and the number of entries, a byte each.
-const HEADER: usize = 2;
-
-/// A start or a count in the contents: 16 bits, low byte first.
-const FIELD: usize = 2;
-
-/// Where an entry has its start: after the kind and the bytes per fact, a byte each.
-const START: usize = 2;
-
-/// Where an entry has its count.
-const COUNT: usize = START + FIELD;
-
-/// An entry of the contents; there is one for each kind.
-const ENTRY: usize = COUNT + FIELD;
-
-/// The header and the entries; the bodies follow.
-const CONTENTS: usize = HEADER + ENTRY * Kind::ALL.len();
-
-/// No graph's image is longer: the facts with the most ids are the values.
-pub const LONGEST_IMAGE: usize = CONTENTS + Kind::Value.width() * MOST_FACTS;
-
-/// A consistent graph. Its image is what a backup keeps; two graphs are equal if their images are.
-#[derive(Clone, PartialEq, Eq, Debug)]
+/// A consistent graph. Its image is what a backup keeps. A graph has one image, so two graphs are equal if
+/// their images are.
+#[derive(Clone, PartialEq, Eq, Hash)]
 pub struct Graph {
     image: Vec<u8>,
 }
@@ -46,20 +22,10 @@ impl Graph {
     /// assert_eq!(graph.all_facts().collect::<Vec<_>>(), [Fact::Class(0)]);
     /// ```
     pub fn fresh() -> Graph {
-        let mut image = vec![EDITION, Kind::ALL.len() as u8];
-        let mut start = CONTENTS as u16;
-        for kind in Kind::ALL {
-            let count = u16::from(kind == Kind::Class);
-            image.extend([kind.number(), kind.width() as u8]);
-            image.extend(start.to_le_bytes());
-            image.extend(count.to_le_bytes());
-            start += count * kind.width() as u16;
-        }
-        image.push(RESOURCE);
-        Graph { image }
+        Graph { image: fresh_image() }
     }
 
-    /// The graph of an image, if it is well formed, has at most 2,048 facts and is consistent.
+    /// The graph of an image.
     ///
     /// ```
     /// use vimelosa_host::{Graph, Refusal};
@@ -67,13 +33,17 @@ impl Graph {
     /// assert_eq!(Graph::load(&saved), Ok(Graph::fresh()));
     /// assert_eq!(Graph::load(&saved[1..]), Err(Refusal::Malformed));
     /// ```
+    ///
+    /// # Errors
+    ///
+    /// Those of [`check_image`].
     pub fn load(image: &[u8]) -> Result<Graph, Refusal> {
-        // Resource is in every consistent graph, so this ticket is accepted and changes nothing.
-        let nothing_new = Ticket::insert_class(RESOURCE);
-        applied(image, nothing_new).map(|(graph, _)| graph)
+        check_image(image)?;
+        Ok(Graph { image: image.to_vec() })
     }
 
-    /// Runs one ticket. A refused one leaves the graph as it was.
+    /// Runs one ticket. The call reads the whole image and checks it again, which takes longer than the
+    /// ticket: several tickets are faster by [`Graph::apply_all`].
     ///
     /// ```
     /// use vimelosa_host::{Change, Graph, Refusal, Ticket};
@@ -83,13 +53,30 @@ impl Graph {
     /// assert_eq!(graph.apply(Ticket::insert_value(4, 5, 6)), Err(Refusal::UnknownProperty));
     /// # Ok::<(), Refusal>(())
     /// ```
+    ///
+    /// # Errors
+    ///
+    /// 5 to 11, [`Refusal::BadOperation`] to [`Refusal::TooMany`]; the graph is then as it was.
     pub fn apply(&mut self, ticket: Ticket) -> Result<Change, Refusal> {
-        let (graph, change) = applied(&self.image, ticket)?;
-        *self = graph;
-        Ok(change)
+        let mut output = [0; LONGEST_IMAGE];
+        let applied = apply_ticket(&self.image, &ticket.bytes(), &mut output)?;
+        self.replace_image(&output[..applied.length]);
+        Ok(applied.change)
+    }
+
+    /// Takes over an image that a call has written.
+    pub(crate) fn replace_image(&mut self, written: &[u8]) {
+        self.image.clear();
+        self.image.extend(written);
     }
 
     /// The image, to be kept and loaded later.
+    ///
+    /// ```
+    /// use vimelosa_host::Graph;
+    /// let graph = Graph::fresh();
+    /// assert_eq!(graph.image().len(), 63);
+    /// ```
     pub fn image(&self) -> &[u8] {
         &self.image
     }
@@ -105,10 +92,11 @@ impl Graph {
     /// # Ok::<(), Refusal>(())
     /// ```
     pub fn body(&self, kind: Kind) -> &[u8] {
-        let entry = HEADER + ENTRY * (usize::from(kind.number()) - 1);
-        let number = |at: usize| usize::from(u16::from_le_bytes([self.image[at], self.image[at + 1]]));
-        let (start, count) = (number(entry + START), number(entry + COUNT));
-        &self.image[start..start + count * kind.width()]
+        self.rows(kind).bytes()
+    }
+
+    pub(crate) fn rows(&self, kind: Kind) -> Rows<'_> {
+        rows_of(&self.image, kind)
     }
 
     /// The facts of a kind, ascending.
@@ -121,9 +109,8 @@ impl Graph {
     /// assert_eq!(members[1], Fact::Member { individual: 4, class: 3 });
     /// # Ok::<(), Refusal>(())
     /// ```
-    pub fn facts(&self, kind: Kind) -> impl Iterator<Item = Fact> + '_ {
-        let body = self.body(kind).chunks(kind.width());
-        body.map(move |ids| Fact::of_ids(kind, ids))
+    pub fn facts(&self, kind: Kind) -> Facts<'_> {
+        Facts::of(kind, self.rows(kind))
     }
 
     /// All facts, in the order of their words.
@@ -136,11 +123,12 @@ impl Graph {
     /// assert_eq!(facts, [Fact::Class(0), Fact::Class(2), Fact::Subclass { class: 2, superclass: 0 }]);
     /// # Ok::<(), Refusal>(())
     /// ```
-    pub fn all_facts(&self) -> impl Iterator<Item = Fact> + '_ {
-        Kind::ALL.into_iter().flat_map(|kind| self.facts(kind))
+    pub fn all_facts(&self) -> AllFacts<'_> {
+        AllFacts::in_image(&self.image)
     }
 
-    /// How many facts the graph has; at least one, since rdfs:Resource is always a class.
+    /// How many facts the graph has, read off the image's contents; at least one, since rdfs:Resource is
+    /// always a class.
     ///
     /// ```
     /// use vimelosa_host::{Graph, Refusal, Ticket};
@@ -152,11 +140,10 @@ impl Graph {
     /// # Ok::<(), Refusal>(())
     /// ```
     pub fn count_facts(&self) -> usize {
-        let count = |kind: Kind| self.body(kind).len() / kind.width();
-        Kind::ALL.into_iter().map(count).sum()
+        Kind::ALL.into_iter().map(|kind| self.rows(kind).count()).sum()
     }
 
-    /// Whether the graph has a fact.
+    /// Whether the graph has a fact, by binary search in its kind's body.
     ///
     /// ```
     /// use vimelosa_host::{Fact, Graph, Refusal, Ticket};
@@ -167,7 +154,8 @@ impl Graph {
     /// # Ok::<(), Refusal>(())
     /// ```
     pub fn has(&self, fact: Fact) -> bool {
-        self.facts(fact.kind()).any(|other| other == fact)
+        let kind = fact.kind();
+        self.rows(kind).has(&fact.ids()[..kind.width()])
     }
 }
 
@@ -177,10 +165,32 @@ impl Default for Graph {
     }
 }
 
-/// The graph that a ticket leaves of an image, and the change.
-fn applied(image: &[u8], ticket: Ticket) -> Result<(Graph, Change), Refusal> {
-    let mut output = [0; LONGEST_IMAGE];
-    let applied = apply_ticket(image, &ticket.bytes(), &mut output)?;
-    let image = output[..applied.length].to_vec();
-    Ok((Graph { image }, applied.change))
+/// The graph of an image, as [`Graph::load`] gives it.
+///
+/// ```
+/// use vimelosa_host::{Graph, Refusal};
+/// assert_eq!(Graph::try_from(Graph::fresh().image()), Ok(Graph::fresh()));
+/// assert_eq!(Graph::try_from(&[][..]), Err(Refusal::Malformed));
+/// ```
+impl TryFrom<&[u8]> for Graph {
+    type Error = Refusal;
+
+    fn try_from(image: &[u8]) -> Result<Graph, Refusal> {
+        Graph::load(image)
+    }
+}
+
+/// The facts in words.
+///
+/// ```
+/// use vimelosa_host::{Graph, Refusal, Ticket};
+/// let mut graph = Graph::fresh();
+/// graph.apply(Ticket::insert_class(2))?;
+/// assert_eq!(format!("{graph:?}"), "Graph { count: 3, facts: [class 0, class 2, subclass 2 0] }");
+/// # Ok::<(), Refusal>(())
+/// ```
+impl fmt::Debug for Graph {
+    fn fmt(&self, f: &mut fmt::Formatter<'_>) -> fmt::Result {
+        f.debug_struct("Graph").field("count", &self.count_facts()).field("facts", &self.all_facts()).finish()
+    }
 }

@@ -1,12 +1,17 @@
 //! The Rust host of Vimelosa's equipment graph: one RDF/S graph, kept as an image and changed by tickets. The
-//! work is done by a proved library behind one C function; this crate gives it the types of the field.
+//! work is done by a proved library behind three C functions; this crate gives it the types of the field.
 //!
 //! - [`Graph`] holds an image. [`Graph::apply`] runs one [`Ticket`] and answers the [`Change`] or the
-//!   [`Refusal`].
+//!   [`Refusal`], [`Graph::apply_all`] runs a list of them.
 //! - [`Fact`] and [`Kind`] are what a graph is made of; [`Graph::facts`] reads the facts of a kind off the
-//!   image.
-//! - [`apply_ticket`] is the same call over bytes that the caller lends, and [`call_raw`] gives its number as
-//!   it comes.
+//!   image. Look-ups such as [`Graph::members_of`] and [`Graph::holders_of`] read what they say of an id;
+//!   [`Graph::diff`] compares two graphs.
+//! - [`Names`] keeps names for ids in a file, and writes and reads facts and tickets with them.
+//! - [`apply_ticket`], [`apply_list`] and [`check_image`] are the calls over bytes that the caller lends;
+//!   [`call_raw`], [`call_list_raw`] and [`check_raw`] give their numbers as they come.
+//!
+//! The proved library has no state and takes no memory but the stack, of which 64 KB are enough for its
+//! deepest calls known. Calls may run on any threads at once, and none panics.
 //!
 //! Kind, ticket, image, body, refusal and the mark Literal are the words of the specification, document 01.
 //!
@@ -35,16 +40,44 @@
 #![deny(missing_docs)]
 
 mod call;
+mod deletion;
+mod diff;
 mod fact;
+mod facts;
 #[allow(unsafe_code)]
 mod ffi;
 mod graph;
+mod image;
+mod insertion;
+mod kind;
+mod list;
+mod lookups;
+mod name_error;
+mod names;
+mod names_text;
+mod parse;
+mod range;
 mod refusal;
+mod rows;
+mod rule;
+mod show;
 mod ticket;
+mod words;
 
-pub use call::{apply_ticket, Applied, Change};
-pub use fact::{Fact, Kind, Range, RESOURCE};
-pub use ffi::call_raw;
-pub use graph::{Graph, LONGEST_IMAGE, MOST_FACTS};
+pub use call::{apply_list, apply_ticket, check_image, Applied, AppliedList, Change};
+pub use diff::Diff;
+pub use fact::{Fact, RESOURCE};
+pub use facts::{AllFacts, Facts};
+pub use ffi::{call_list_raw, call_raw, check_raw};
+pub use graph::Graph;
+pub use image::{LONGEST_IMAGE, MOST_FACTS};
+pub use kind::Kind;
+pub use list::RefusedTicket;
+pub use name_error::{NameError, NamesError};
+pub use names::Names;
+pub use parse::ParseError;
+pub use range::Range;
 pub use refusal::Refusal;
-pub use ticket::Ticket;
+pub use rule::Rule;
+pub use show::Named;
+pub use ticket::{Asked, Ticket};

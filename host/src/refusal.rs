@@ -2,64 +2,79 @@
 //! of the library's constant: `badIds`, `BAD_IDS`, `BadIds`. docs/REFUSALS.md has who can cause it and which
 //! calls give it.
 
+use crate::Rule;
 use std::error::Error;
 use std::fmt;
 
 /// Why a call refused, each with document 01's number and words. A refusal leaves all lent memory as it was.
 /// More will follow, 15 to 20, so a `match` on it has an arm for the others.
-#[derive(Clone, Copy, PartialEq, Eq, Debug)]
+#[derive(Clone, Copy, PartialEq, Eq, Hash, Debug)]
 #[non_exhaustive]
-#[repr(u16)]
 pub enum Refusal {
     /// 1: table of no words or above 2,048.
-    BadSize = 1,
+    BadSize,
     /// 2: table not laid out: the facts ascending, none twice, then zeros to the end.
-    BadLayout = 2,
+    BadLayout,
     /// 3: table not consistent; in reading, the image's graph.
-    Inconsistent = 3,
+    Inconsistent {
+        /// The first rule that it breaks, in the paper's order.
+        rule: Rule,
+    },
     /// 4: a ticket's length not 5.
-    BadLength = 4,
+    BadLength,
     /// 5: operation, which is neither 1 (insert) nor 2 (delete).
-    BadOperation = 5,
+    BadOperation,
     /// 6: kind, which is not 1 to 10, or is 7 or 8.
-    BadKind = 6,
+    BadKind,
     /// 7: an unused byte not 0, or id 1 anywhere but as c of an insertion of kind 2.
     /// [`Range::class`](crate::Range::class) answers it too, for id 1.
-    BadIds = 7,
+    BadIds,
     /// 8: deletion of Cl(0), or of CSub or CI with b = 0, present or not.
-    Guarded = 8,
+    Guarded,
     /// 9: inserting PSub with a or b not a property of the table, or PI with c not one.
-    UnknownProperty = 9,
+    UnknownProperty,
     /// 10: inserting where no consistent graph holds table and asked facts.
-    Clashing = 10,
+    Clashing,
     /// 11: the new graph (in reading, the image's) has more facts than the table has words.
-    TooMany = 11,
+    TooMany,
     /// 12: image malformed.
-    Malformed = 12,
+    Malformed,
     /// 13: output shorter than the image.
-    ShortOutput = 13,
-    /// 14: fewer answer bytes than tickets.
-    FewAnswers = 14,
+    ShortOutput {
+        /// The image's length: an output of that many bytes is long enough.
+        needed: usize,
+    },
+    /// 14: fewer answer bytes than tickets, or more tickets than a list call counts.
+    FewAnswers,
 }
 
+/// The number of [`Refusal::Inconsistent`], whose rule it does not tell.
+pub(crate) const INCONSISTENT: u16 = 3;
+
+/// The number of [`Refusal::ShortOutput`], whose length it does not tell.
+pub(crate) const SHORT_OUTPUT: u16 = 13;
+
+/// The others, which their number tells.
+const TOLD_BY_NUMBER: [Refusal; 12] = [
+    Refusal::BadSize,
+    Refusal::BadLayout,
+    Refusal::BadLength,
+    Refusal::BadOperation,
+    Refusal::BadKind,
+    Refusal::BadIds,
+    Refusal::Guarded,
+    Refusal::UnknownProperty,
+    Refusal::Clashing,
+    Refusal::TooMany,
+    Refusal::Malformed,
+    Refusal::FewAnswers,
+];
+
 impl Refusal {
-    /// All refusals, by number: the only list of them in this package.
-    pub const ALL: [Refusal; 14] = [
-        Refusal::BadSize,
-        Refusal::BadLayout,
-        Refusal::Inconsistent,
-        Refusal::BadLength,
-        Refusal::BadOperation,
-        Refusal::BadKind,
-        Refusal::BadIds,
-        Refusal::Guarded,
-        Refusal::UnknownProperty,
-        Refusal::Clashing,
-        Refusal::TooMany,
-        Refusal::Malformed,
-        Refusal::ShortOutput,
-        Refusal::FewAnswers,
-    ];
+    /// The refusal of a number, if the number tells it.
+    pub(crate) fn of_number(number: u16) -> Option<Refusal> {
+        TOLD_BY_NUMBER.into_iter().find(|refusal| refusal.number() == number)
+    }
 
     /// Document 01's number.
     ///
@@ -68,15 +83,35 @@ impl Refusal {
     /// assert_eq!(Refusal::Clashing.number(), 10);
     /// ```
     pub fn number(self) -> u16 {
-        self as u16
+        match self {
+            Refusal::BadSize => 1,
+            Refusal::BadLayout => 2,
+            Refusal::Inconsistent { .. } => INCONSISTENT,
+            Refusal::BadLength => 4,
+            Refusal::BadOperation => 5,
+            Refusal::BadKind => 6,
+            Refusal::BadIds => 7,
+            Refusal::Guarded => 8,
+            Refusal::UnknownProperty => 9,
+            Refusal::Clashing => 10,
+            Refusal::TooMany => 11,
+            Refusal::Malformed => 12,
+            Refusal::ShortOutput { .. } => SHORT_OUTPUT,
+            Refusal::FewAnswers => 14,
+        }
     }
 
     /// What is wrong, in a sentence for the one who caused it.
+    ///
+    /// ```
+    /// use vimelosa_host::Refusal;
+    /// assert_eq!(Refusal::Malformed.sentence(), "The image is malformed.");
+    /// ```
     pub fn sentence(self) -> &'static str {
         match self {
             Refusal::BadSize => "The table has no words or more than 2,048.",
             Refusal::BadLayout => "The table is not facts in ascending order followed by zeros.",
-            Refusal::Inconsistent => "The graph breaks a rule.",
+            Refusal::Inconsistent { .. } => "The graph breaks a rule.",
             Refusal::BadLength => "The ticket is not five bytes long.",
             Refusal::BadOperation => "The ticket neither inserts nor deletes.",
             Refusal::BadKind => "The ticket names a kind that no ticket can have.",
@@ -86,34 +121,39 @@ impl Refusal {
             Refusal::Clashing => "The ticket clashes with what the graph holds.",
             Refusal::TooMany => "The graph would have more facts than the table has room for.",
             Refusal::Malformed => "The image is malformed.",
-            Refusal::ShortOutput => "The output is too short for the image.",
-            Refusal::FewAnswers => "There are fewer answer bytes than tickets.",
+            Refusal::ShortOutput { .. } => "The output is too short for the image.",
+            Refusal::FewAnswers => "There are fewer answer bytes than tickets, or more than 65,535 tickets.",
         }
     }
 }
 
-/// The refusal of an answer's number, or the number itself where it is none: 0, and those that no refusal
-/// has.
+/// The number and the sentence; for 3 also the rule, for 13 the length.
 ///
 /// ```
-/// use vimelosa_host::Refusal;
-/// assert_eq!(Refusal::try_from(10), Ok(Refusal::Clashing));
-/// assert_eq!(Refusal::try_from(0), Err(0));
-/// assert_eq!(Refusal::try_from(1000), Err(1000));
+/// use vimelosa_host::{Refusal, Rule};
+/// assert_eq!(Refusal::BadLength.to_string(), "refusal 4: The ticket is not five bytes long.");
+///
+/// let no_resource = Refusal::Inconsistent { rule: Rule::H1 };
+/// assert_eq!(no_resource.to_string(), "refusal 3: The graph breaks a rule. H1: Resource is a class.");
+///
+/// let short = Refusal::ShortOutput { needed: 84 };
+/// assert_eq!(short.to_string(), "refusal 13: The output is too short for the image. It needs 84 bytes.");
 /// ```
-impl TryFrom<u16> for Refusal {
-    type Error = u16;
-
-    fn try_from(number: u16) -> Result<Refusal, u16> {
-        let numbered = Refusal::ALL.into_iter().find(|refusal| refusal.number() == number);
-        numbered.ok_or(number)
-    }
-}
-
 impl fmt::Display for Refusal {
     fn fmt(&self, f: &mut fmt::Formatter<'_>) -> fmt::Result {
-        write!(f, "refusal {}: {}", self.number(), self.sentence())
+        write!(f, "refusal {}: {}", self.number(), self.sentence())?;
+        match self {
+            Refusal::Inconsistent { rule } => {
+                let at_start_of_sentence = rule.to_string().replace("rule", "Rule");
+                write!(f, " {at_start_of_sentence}: {}", rule.sentence())
+            }
+            Refusal::ShortOutput { needed } => write!(f, " It needs {needed} bytes."),
+            _ => Ok(()),
+        }
     }
 }
 
 impl Error for Refusal {}
+
+#[cfg(test)]
+mod tests;

@@ -1,28 +1,42 @@
-//! The safe calls: the vectors through `Graph`, its facts beside those of the independent implementation.
+//! The safe calls: the vectors and random tickets through `Graph`, ticket by ticket and as lists; its facts
+//! beside those of the independent implementation.
 
 mod generator;
 mod independent;
 mod vector_files;
 
-use generator::tickets::{ticket, ALL_IDS};
+use generator::long_lists::long_list;
+use generator::tickets::{records, ticket, ALL_IDS, MANY};
 use generator::{rounds, Random};
 use independent::fact::value;
 use independent::image::{facts_in, image_of};
 use independent::table::fresh_graph;
+use std::thread;
 use vector_files::{database, paper_cases, suite_cases};
-use vimelosa_host::{Change, Fact, Graph, Kind, Range, Refusal, Ticket, LONGEST_IMAGE, MOST_FACTS};
+use vimelosa_host::{Change, Fact, Graph, Kind, Range, Refusal, RefusedTicket, Ticket};
+use vimelosa_host::{LONGEST_IMAGE, MOST_FACTS};
 
 fn ticket_of(bytes: &[u8]) -> Ticket {
     Ticket::of_bytes(bytes.try_into().expect("five bytes"))
 }
 
-/// Runs a list on a graph; the answers as number, added and removed.
+fn tickets_of(list: &[u8]) -> Vec<Ticket> {
+    list.chunks(5).map(ticket_of).collect()
+}
+
+/// Runs a list on a graph ticket by ticket, and at once on its copy, which says the same; the answers as
+/// number, added and removed.
 fn run(graph: &mut Graph, list: &[u8]) -> Vec<[usize; 3]> {
-    let outcome = |ticket: &[u8]| match graph.apply(ticket_of(ticket)) {
+    let (mut copy, tickets) = (graph.clone(), tickets_of(list));
+    let outcomes: Vec<_> = tickets.iter().map(|ticket| graph.apply(*ticket)).collect();
+    let at_once: Vec<_> = outcomes.iter().map(|outcome| outcome.map(|_| ())).collect();
+    assert_eq!(copy.apply_all(&tickets), at_once);
+    assert_eq!(copy, *graph);
+    let answer = |outcome: Result<Change, Refusal>| match outcome {
         Ok(Change { added, removed }) => [0, added.into(), removed.into()],
         Err(refusal) => [refusal.number().into(), 0, 0],
     };
-    list.chunks(5).map(outcome).collect()
+    outcomes.into_iter().map(answer).collect()
 }
 
 fn words(graph: &Graph) -> Vec<u32> {
@@ -86,56 +100,80 @@ fn facts_of_a_graph_are_those_of_its_image() {
         let expected: Vec<u32> = facts_in(graph.image()).unwrap().facts().map(|f| f.word()).collect();
         assert_eq!(words(&graph), expected);
         assert_eq!(graph.count_facts(), expected.len());
-        assert!(graph.all_facts().all(|fact| graph.has(fact)));
         assert_eq!(Graph::load(graph.image()), Ok(graph));
     }
 }
 
 #[test]
-fn refusals_are_numbered_from_1_on_and_have_a_sentence_each() {
-    for (number, refusal) in (1..).zip(Refusal::ALL) {
-        assert_eq!(refusal.number(), number);
-        assert_eq!(Refusal::try_from(number), Ok(refusal));
-        assert!(refusal.sentence().ends_with('.'));
-        assert_eq!(refusal.to_string(), format!("refusal {number}: {}", refusal.sentence()));
-    }
-    let has_number = |number: u16| Refusal::ALL.iter().any(|refusal| refusal.number() == number);
-    for number in (0..=u16::MAX).filter(|number| !has_number(*number)) {
-        assert_eq!(Refusal::try_from(number), Err(number));
-    }
-}
-
-/// `BadIds` is `BAD_IDS` in the library's code, with the same number, and `badIds` in its definitions. No
-/// refusal is in one list and not in the others.
-#[test]
-fn refusals_have_one_name() {
-    let code = include_str!("../../crates/table/src/refusals.rt");
-    let in_code: Vec<&str> = code.lines().filter(|line| line.starts_with("pub const")).collect();
-    let constant =
-        |refusal: &Refusal| format!("pub const {}: u8 = {};", upper_case(*refusal), refusal.number());
-    assert_eq!(in_code, Refusal::ALL.iter().map(constant).collect::<Vec<_>>());
-
-    let document = include_str!("../../docs/REFUSALS.md");
-    let rows = document.lines().filter(|line| line.starts_with("| ") && line.matches('`').count() == 8);
-    let in_document: Vec<&str> = rows.map(|row| row.rsplit_once(" | ").unwrap().0).collect();
-    let row = |refusal: &Refusal| {
-        let name = format!("{refusal:?}");
-        let definition = format!("{}{}", name[..1].to_lowercase(), &name[1..]);
-        format!("| {} | `{definition}` | `{}` | `{name}`", refusal.number(), upper_case(*refusal))
-    };
-    assert_eq!(in_document, Refusal::ALL.iter().map(row).collect::<Vec<_>>());
-}
-
-/// The name of a refusal in the library's code.
-fn upper_case(refusal: Refusal) -> String {
-    let mut name = String::new();
-    for letter in format!("{refusal:?}").chars() {
-        if letter.is_uppercase() && !name.is_empty() {
-            name.push('_');
+fn lists_leave_what_their_tickets_leave_one_by_one() {
+    let mut random = Random::for_test("lists_leave");
+    for round in 0..rounds(40) {
+        let mut graph = Graph::fresh();
+        for length in [0, 1, 60] {
+            run(&mut graph, &records(&mut random, &ALL_IDS[round % 4], length));
         }
-        name.push(letter.to_ascii_uppercase());
     }
-    name
+}
+
+/// One call counts 65,535 tickets, so this list is cut.
+#[test]
+fn a_list_of_70_000_tickets_is_run_whole() {
+    let mut random = Random::for_test("a_list_of_70_000");
+    let list: Vec<u8> = long_list(&mut random, 70_000).concat();
+    let answers = run(&mut Graph::fresh(), &list);
+    assert_eq!(answers.len(), 70_000);
+    assert!(answers[65_535..].iter().any(|answer| answer[1] > 0));
+}
+
+/// The library has no state, so calls on one graph by eight threads at once leave what one call leaves.
+#[test]
+fn threads_run_lists_at_once() {
+    let mut random = Random::for_test("threads_run_lists");
+    let mut graph = Graph::fresh();
+    run(&mut graph, &records(&mut random, &MANY, 40));
+    let tickets = tickets_of(&records(&mut random, &MANY, 400));
+    let call = || {
+        let mut copy = graph.clone();
+        (copy.apply_all(&tickets), copy)
+    };
+    let expected = call();
+    assert!(expected.0.iter().any(Result::is_err) && expected.1 != graph);
+    thread::scope(|scope| {
+        let threads = [(); 8].map(|()| scope.spawn(call));
+        for thread in threads {
+            assert_eq!(thread.join().expect("no call panics"), expected);
+        }
+    });
+}
+
+#[test]
+fn lists_are_run_whole_or_not_at_all() {
+    let mut random = Random::for_test("lists_are_run_whole");
+    let mut whole = 0;
+    for round in 0..rounds(200) {
+        let ids = &ALL_IDS[round % 4];
+        let mut graph = Graph::fresh();
+        let _ = graph.apply_all(&tickets_of(&records(&mut random, ids, 30)));
+        let (before, mut after) = (graph.clone(), graph.clone());
+        let tickets = tickets_of(&records(&mut random, ids, round % 5));
+        let outcomes = after.apply_all(&tickets);
+        match outcomes.iter().position(Result::is_err) {
+            Some(place) => {
+                let refusal = outcomes[place].unwrap_err();
+                assert_eq!(graph.apply_all_or_none(&tickets), Err(RefusedTicket { place, refusal }));
+                assert_eq!(graph, before);
+            }
+            None => {
+                let count = |one: &Graph, other: &Graph| one.all_facts().filter(|f| !other.has(*f)).count();
+                let change = graph.apply_all_or_none(&tickets).unwrap();
+                assert_eq!(usize::from(change.added), count(&after, &before));
+                assert_eq!(usize::from(change.removed), count(&before, &after));
+                assert_eq!(graph, after);
+                whole += 1;
+            }
+        }
+    }
+    assert!(whole >= rounds(40));
 }
 
 #[test]
@@ -165,41 +203,5 @@ fn ranges_are_told_apart_by_their_ids() {
         let held: Vec<u8> =
             ranges.iter().filter(|(_, other)| graph.has(fact(*other))).map(|(id, _)| *id).collect();
         assert_eq!(held, [*id]);
-    }
-}
-
-#[test]
-fn tickets_that_name_something_by_id_1_are_refused() {
-    let tickets = [
-        Ticket::insert_class(1),
-        Ticket::insert_property(1, 2, Range::Literal),
-        Ticket::insert_property(5, 1, Range::Literal),
-        Ticket::insert_individual(1),
-        Ticket::insert_literal(1),
-        Ticket::insert_subclass(1, 2),
-        Ticket::insert_subclass(2, 1),
-        Ticket::insert_subproperty(1, 5),
-        Ticket::insert_subproperty(5, 1),
-        Ticket::insert_member(1, 2),
-        Ticket::insert_member(4, 1),
-        Ticket::insert_value(1, 4, 5),
-        Ticket::insert_value(4, 1, 5),
-        Ticket::insert_value(4, 6, 1),
-        Ticket::delete_class(1),
-        Ticket::delete_property(1),
-        Ticket::delete_individual(1),
-        Ticket::delete_literal(1),
-        Ticket::delete_subclass(1, 2),
-        Ticket::delete_subclass(2, 1),
-        Ticket::delete_subproperty(1, 5),
-        Ticket::delete_subproperty(5, 1),
-        Ticket::delete_member(1, 2),
-        Ticket::delete_member(4, 1),
-        Ticket::delete_value(1, 4, 5),
-        Ticket::delete_value(4, 1, 5),
-        Ticket::delete_value(4, 6, 1),
-    ];
-    for ticket in tickets {
-        assert_eq!(Graph::fresh().apply(ticket), Err(Refusal::BadIds), "{ticket:?}");
     }
 }

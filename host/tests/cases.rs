@@ -7,7 +7,7 @@ use independent::fact::*;
 use independent::image::{body, image_of, read, write};
 use independent::list::{apply_list, ListAnswer};
 use independent::programs::{print_answers, print_facts, words_of};
-use independent::table::{check, fresh, fresh_graph, lookup};
+use independent::table::{check, fresh, fresh_graph, fresh_table, lookup};
 use independent::ticket::{apply, Answer};
 use vector_files::bytes;
 
@@ -29,12 +29,6 @@ const CASES: [(&str, [usize; 3]); 12] = [
 
 fn answer([number, added, removed]: [usize; 3]) -> Answer {
     Answer { number: number as u8, added, removed }
-}
-
-fn fresh_table(words: usize) -> Vec<u32> {
-    let mut table = vec![0; words];
-    assert_eq!(fresh(&mut table), 0);
-    table
 }
 
 /// The table that the first `count` cases leave.

@@ -9,15 +9,9 @@ use independent::fact::*;
 use independent::graph::Graph;
 use independent::insertion::smallest;
 use independent::list::{apply_list, ListAnswer};
-use independent::table::{check, facts_of, fresh, MOST_WORDS};
+use independent::table::{check, facts_of, fresh_table, MOST_WORDS};
 use independent::ticket::{apply, asked_by, changed, Answer, Asked};
 use independent::{brute, plain, rules};
-
-fn fresh_table(words: usize) -> Vec<u32> {
-    let mut table = vec![0; words];
-    assert_eq!(fresh(&mut table), 0);
-    table
-}
 
 /// One accepted ticket: the words are a consistent table, nothing goes by an insertion, nothing comes by a
 /// deletion.

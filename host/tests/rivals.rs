@@ -15,7 +15,7 @@ use independent::graph::Graph;
 use independent::{host, programs, table};
 use rivals::bit_rows::BitRows;
 use rivals::sorted::Sorted;
-use rivals::{host_call, program, Rival};
+use rivals::{host_call, list_call, program, Rival, TICKET_LENGTH};
 use vimelosa_host::LONGEST_IMAGE;
 
 /// The number that all three give, and the output that all three leave.
@@ -28,6 +28,24 @@ fn same_call(image: &[u8], ticket: &[u8], output_length: usize) -> (u64, Vec<u8>
         assert_eq!(output, expected, "{ticket:02x?} on {image:02x?}");
     }
     (number, expected)
+}
+
+/// The number that all three give for a list, with so many answer bytes, and the output that all three leave.
+fn same_list_call(image: &[u8], list: &[u8], answers_length: usize, output_length: usize) -> (u64, Vec<u8>) {
+    let (mut expected_answers, mut expected) = (vec![0x5a; answers_length], vec![0x5a; output_length]);
+    let number = host::host_list_call(image, list, &mut expected_answers, &mut expected);
+    for call in [list_call::<Sorted>, list_call::<BitRows>] {
+        let (mut answers, mut output) = (vec![0x5a; answers_length], vec![0x5a; output_length]);
+        assert_eq!(call(image, list, &mut answers, &mut output), number, "{list:02x?} on {image:02x?}");
+        assert_eq!(answers, expected_answers, "{list:02x?} on {image:02x?}");
+        assert_eq!(output, expected, "{list:02x?} on {image:02x?}");
+    }
+    (number, expected)
+}
+
+/// The same with an answer byte more than there are tickets.
+fn same_answered_list(image: &[u8], list: &[u8], output_length: usize) -> (u64, Vec<u8>) {
+    same_list_call(image, list, list.chunks(TICKET_LENGTH).len() + 1, output_length)
 }
 
 fn same_check(words: &[u32]) -> u8 {
@@ -67,9 +85,6 @@ fn host_calls_on_damaged_images() {
     let mut random = Random::for_test("rivals_on_damaged_images");
     calls::on_damaged_images(&mut random, rounds(200), same_call);
     calls::on_changed_contents(&mut random, same_call);
-    for more in [0, 1] {
-        same_call(&image(&graphs::overlong())[more..], &[1, 1, 2, 0, 0], LONGEST_IMAGE);
-    }
 }
 
 #[test]
@@ -80,6 +95,60 @@ fn host_calls_on_full_graphs() {
         for _ in 0..rounds(6) {
             same_call(&whole, &ticket(&mut random, &PLENTY), LONGEST_IMAGE);
         }
+    }
+}
+
+/// Ten lists in turn on what those before leave of a fresh graph, now and then with an answer byte too few or
+/// an output about as long as the image.
+#[test]
+fn list_calls_on_growing_graphs() {
+    let mut random = Random::for_test("rivals_list_calls_on_growing_graphs");
+    let mut met = [0; 15];
+    for round in 0..rounds(60) {
+        let mut held = image(&table::fresh_graph());
+        for _ in 0..10 {
+            let count = random.below(16);
+            let list = list(&mut random, &ALL_IDS[round % 4], count);
+            let tickets = list.chunks(TICKET_LENGTH).len();
+            let answers = (tickets + random.pick(&[0, 0, 1, 7])).saturating_sub(random.pick(&[0, 0, 0, 1]));
+            let output = if random.is_one_in(4) { random.below(2 * held.len()) } else { LONGEST_IMAGE };
+            let (number, output) = same_list_call(&held, &list, answers, output);
+            met[usize::from(number as u16)] += 1;
+            if number as u16 == 0 {
+                held = output[..(number >> 48) as usize].to_vec();
+            }
+        }
+    }
+    assert!([0, 13, 14].iter().all(|number| met[*number] > 10), "{met:?}");
+}
+
+#[test]
+fn list_calls_on_damaged_images() {
+    let mut random = Random::for_test("rivals_list_calls_on_damaged_images");
+    calls::on_damaged_images(&mut random, rounds(100), same_answered_list);
+    calls::on_changed_contents(&mut random, same_answered_list);
+}
+
+#[test]
+fn list_calls_on_full_graphs() {
+    let mut random = Random::for_test("rivals_list_calls_on_full_graphs");
+    for facts in [2040, 2048] {
+        let whole = image(&graphs::filled(&mut random, facts));
+        for _ in 0..rounds(2) {
+            let list = list(&mut random, &Ids { deletions: 4, ..PLENTY }, 20);
+            same_answered_list(&whole, &list, LONGEST_IMAGE);
+        }
+    }
+}
+
+/// 65,535 tickets are counted; one more is refused with 14, whatever the answer bytes.
+#[test]
+fn list_calls_of_most_tickets() {
+    let fresh = image(&table::fresh_graph());
+    for (more, number) in [(0, 62 + 1), (1, 0)] {
+        let list = vec![0; TICKET_LENGTH * (65_535 + more)];
+        let (answer, _) = same_answered_list(&fresh, &list, LONGEST_IMAGE);
+        assert_eq!((answer as u16, answer >> 48), ([0, 14][more], number));
     }
 }
 

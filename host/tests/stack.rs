@@ -1,9 +1,10 @@
-//! The host call on a thread with a small stack: the tickets whose side effects nest deepest. A side effect
-//! is put in with side effects of its own, so the depth is that of the longest way through a graph: a chain
-//! of links below the new link, then a chain above it, where each step goes to the nearest id first.
+//! The calls across the C interface on a thread with a small stack: the tickets whose side effects nest
+//! deepest, singly and in a list. A side effect is put in with side effects of its own, so the depth is that
+//! of the longest way through a graph: a chain of links below the new link, then a chain above it, where each
+//! step goes to the nearest id first.
 
 use std::thread;
-use vimelosa_host::{call_raw, Graph, Range, Ticket, LONGEST_IMAGE, RESOURCE};
+use vimelosa_host::{call_list_raw, call_raw, check_raw, Graph, Range, Ticket, LONGEST_IMAGE, RESOURCE};
 
 /// The stack that a thread is to have. The deepest call known takes three quarters of it.
 const STACK: usize = 64 * 1024;
@@ -68,19 +69,46 @@ fn property_chains(chains: &Chains) -> Graph {
     graph
 }
 
-/// Calls on a thread with a small stack and on the test's own, and compares the answers and all bytes of the
-/// outputs.
+/// What a call answers, and the bytes that it leaves in what it was lent to write to.
+type Left = (u64, Vec<u8>, Vec<u8>);
+
+/// What the call leaves on a thread with a small stack is what it leaves on the test's own.
+fn on_small_stack(call: impl Fn() -> Left + Send + 'static) -> Left {
+    let left = call();
+    let small = thread::Builder::new().stack_size(STACK).spawn(call);
+    assert_eq!(small.expect("a thread starts").join().expect("it ends"), left);
+    left
+}
+
+/// The ticket by itself, and twice in a list, with an output that is as long as any image and with one that
+/// is a byte shorter; and the check.
 fn call_on_small_stack(graph: &Graph, ticket: Ticket, expected: u64) {
+    call_singly(graph.image().to_vec(), ticket, expected);
+    for output in [LONGEST_IMAGE, LONGEST_IMAGE - 1] {
+        call_with_list(graph.image().to_vec(), ticket, output, expected);
+    }
     let image = graph.image().to_vec();
-    let call = move |output: &mut [u8]| call_raw(&image, &ticket.bytes(), output);
-    let mut output = vec![7; LONGEST_IMAGE];
-    let answer = call(&mut output);
-    assert_eq!(answer & 0xffff, expected);
-    let small = thread::Builder::new().stack_size(STACK).spawn(move || {
+    let (answer, ..) = on_small_stack(move || (check_raw(&image), Vec::new(), Vec::new()));
+    assert_eq!(answer, 0);
+}
+
+fn call_singly(image: Vec<u8>, ticket: Ticket, expected: u64) {
+    let (answer, ..) = on_small_stack(move || {
         let mut output = vec![7; LONGEST_IMAGE];
-        (call(&mut output), output)
+        (call_raw(&image, &ticket.bytes(), &mut output), output, Vec::new())
     });
-    assert_eq!(small.expect("a thread starts").join().expect("it ends"), (answer, output));
+    assert_eq!(answer & 0xffff, expected);
+}
+
+fn call_with_list(image: Vec<u8>, ticket: Ticket, output: usize, expected: u64) {
+    let list = ticket.bytes().repeat(2);
+    let (answer, numbers, _) = on_small_stack(move || {
+        let (mut answers, mut output) = (vec![7; 3], vec![7; output]);
+        let answer = call_list_raw(&image, &list, &mut answers, &mut output);
+        (answer, answers, output)
+    });
+    assert_eq!(answer & 0xffff, 0);
+    assert_eq!(numbers, [expected as u8, expected as u8, 7]);
 }
 
 #[test]

@@ -1,22 +1,27 @@
 //! What is measured: the proved implementation and the two rivals, each by its calls and as a program.
 
-use crate::checks;
 use crate::rivals::bit_rows::BitRows;
 use crate::rivals::sorted::Sorted;
-use crate::rivals::{host_call, program, Rival};
+use crate::rivals::{host_call, list_call, program, Rival};
+use crate::{checks, list_calls};
 use std::env;
 use std::io::{stdin, stdout, Result};
 use std::path::{Path, PathBuf};
 use std::process::Command;
-use vimelosa_host::call_raw;
+use vimelosa_host::{call_list_raw, call_raw};
 
 /// Image, ticket, output.
 pub type HostCall = fn(&[u8], &[u8], &mut [u8]) -> u64;
+
+/// Image, tickets, answers, output.
+pub type ListCall = fn(&[u8], &[u8], &mut [u8], &mut [u8]) -> u64;
 
 /// The names, in the order of every column.
 pub const NAMES: [&str; 3] = ["proved", "sorted", "bit rows"];
 
 pub const HOST_CALLS: [HostCall; 3] = [call_raw, host_call::<Sorted>, host_call::<BitRows>];
+
+pub const LIST_CALLS: [ListCall; 3] = [call_list_raw, list_call::<Sorted>, list_call::<BitRows>];
 
 /// Program one of a candidate, to be run as a process.
 pub fn program_one(name: &str) -> Command {
@@ -28,12 +33,21 @@ pub fn check_load(name: &str) -> Command {
     process(name, "--check", "check_load", "VIMELOSA_CHECK_LOAD")
 }
 
+/// The program that runs a long list by a candidate's list calls.
+pub fn list_load(name: &str) -> Command {
+    this_executable("--lists", name)
+}
+
 /// The proved program is in target/bin or where a variable says; a rival's is this executable.
 fn process(name: &str, word: &str, program: &str, variable: &str) -> Command {
     if name == NAMES[0] {
         let built = Path::new(env!("CARGO_MANIFEST_DIR")).join("../target/bin").join(program);
         return Command::new(env::var_os(variable).map_or(built, PathBuf::from));
     }
+    this_executable(word, name)
+}
+
+fn this_executable(word: &str, name: &str) -> Command {
     let mut command = Command::new(env::current_exe().expect("the benchmark has a path"));
     command.args([word, name]);
     command
@@ -53,4 +67,10 @@ pub fn run_program(name: &str) -> Result<()> {
 pub fn run_checks(name: &str) -> Result<()> {
     let check = if name == NAMES[1] { Sorted::check } else { BitRows::check };
     checks::run(check, stdin().lock(), stdout().lock())
+}
+
+/// Runs a candidate's list calls in this process.
+pub fn run_lists(name: &str) -> Result<()> {
+    let place = NAMES.iter().position(|other| *other == name).expect("a candidate's name");
+    list_calls::run(LIST_CALLS[place], stdin().lock(), stdout().lock())
 }

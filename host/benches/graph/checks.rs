@@ -1,7 +1,7 @@
 //! The check of a table, as processes that check the table of an image again and again.
 
 use crate::candidates::{check_load, NAMES};
-use crate::clock::{interleaved, processor_time, Readings, Run};
+use crate::clock::{interleaved, processor_time, shares, Run};
 use crate::programs::file_of;
 use crate::rivals::fact::MOST_WORDS;
 use crate::rivals::sorted::Sorted;
@@ -24,12 +24,10 @@ pub fn measure(settings: &Settings, subjects: &[Subject]) -> Vec<Line> {
     paths.iter().for_each(|path| compare(path));
     let each = paths.iter().flat_map(|path| NAMES.map(|candidate| timed(candidate, path)));
     let readings = interleaved(settings.processes, &mut each.collect::<Vec<Run>>());
-    let share = |own: &Readings| own.iter().map(|time| time / ROUNDS as f64).collect();
-    let shares: Vec<Readings> = readings.iter().map(share).collect();
     let name = |subject: &Subject| format!("{}, {} facts", subject.name, subject.facts);
     subjects
         .iter()
-        .zip(shares.chunks(NAMES.len()))
+        .zip(shares(&readings, ROUNDS).chunks(NAMES.len()))
         .map(|(subject, own)| Line::of(name(subject), own))
         .collect()
 }

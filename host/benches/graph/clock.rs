@@ -28,6 +28,12 @@ pub fn interleaved(repetitions: usize, runs: &mut [Run]) -> Vec<Readings> {
     readings
 }
 
+/// The readings of one of the equal pieces that each run consists of.
+pub fn shares(readings: &[Readings], pieces: usize) -> Vec<Readings> {
+    let share = |own: &Readings| own.iter().map(|time| time / pieces as f64).collect();
+    readings.iter().map(share).collect()
+}
+
 pub fn median(mut readings: Readings) -> f64 {
     readings.sort_by(f64::total_cmp);
     let middle = readings.len() / 2;
@@ -46,8 +52,10 @@ pub fn repeated<'a, T>(slice: Duration, mut work: impl FnMut() -> T + 'a) -> Run
         }
         start.elapsed().as_nanos()
     };
-    // The least of a few tries is not disturbed by other processes.
-    let once = (0..TRIES).map(|_| timed(1)).min().unwrap_or(1);
+    // The least of a few tries is not disturbed by other processes. Longer work is done once anyway.
+    let first = timed(1);
+    let tries = if first < slice.as_nanos() { TRIES } else { 0 };
+    let once = (0..tries).map(|_| timed(1)).fold(first, u128::min);
     let times = (slice.as_nanos() / once.max(1)).max(1);
     Box::new(move || timed(times) as f64 / times as f64)
 }

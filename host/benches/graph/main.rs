@@ -1,6 +1,6 @@
 //! The benchmark: the proved implementation beside two rivals and SQLite, in one run. `--quick` measures
 //! little, `--write` writes the report to docs/, `--program NAME` is a rival's program one, `--check NAME`
-//! its check of one table.
+//! its check of one table, `--lists NAME` a candidate's list call on a long list.
 
 // `std::hint::black_box` is of Rust 1.66; the tests do without.
 #![allow(clippy::incompatible_msrv)]
@@ -10,6 +10,7 @@ mod checks;
 mod clock;
 mod growth;
 mod host_calls;
+mod list_calls;
 mod lists;
 mod paper;
 mod plant;
@@ -32,6 +33,7 @@ fn main() -> io::Result<()> {
         match first.as_str() {
             "--program" => return candidates::run_program(name),
             "--check" => return candidates::run_checks(name),
+            "--lists" => return candidates::run_lists(name),
             _ => {}
         }
     }

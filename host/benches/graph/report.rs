@@ -4,13 +4,14 @@ use crate::candidates::NAMES;
 use crate::checks;
 use crate::growth::{picture, Curve};
 use crate::host_calls;
+use crate::list_calls;
 use crate::lists;
 use crate::programs;
 use crate::settings::Settings;
 use crate::sqlite;
 use crate::subjects::{Subject, SIZES};
-use crate::tables::{filled, laid_out, shown, table, Line, Unit};
-use std::fs;
+use crate::tables::{filled, laid_out, shown, table, table_of, Line, Unit};
+use std::{fs, slice};
 
 /// The tickets of the host calls.
 const TICKETS: &str =
@@ -25,6 +26,23 @@ const LISTS: &str =
                      bad`: kinds 1 to 10 and ids 0 to 31 drawn freely. `plants`: plants that fill a table of \
                      2,048 words, each taken down ticket by ticket. `plants, filled`: the same, but cleared \
                      by deleting each id. `dense`: insertions and deletions among 31 ids.";
+
+/// The list call on the first tickets of the lists.
+const LIST_CALLS: &str =
+    "One call across C: an image is read and checked, 1,000 tickets are run, their answers and the new image \
+     written. Ten calls from the fresh image on, each on the image that the one before put out, run the \
+     first 10,000 tickets of each list of program one. As many readings as of a process, by the wall clock.";
+
+/// Single calls on the same tickets.
+const SINGLE_CALLS: &str =
+    "The same tickets by single calls, 1,000 in place of each list call, each on the image that the one \
+     before put out. Time for one ticket:";
+
+/// The list call on the whole lists.
+const WHOLE_LISTS: &str =
+    "The whole lists through the list call, 1,000 tickets to a call as above, beside program one: each as a \
+     process that reads the file, by its processor time, the start of the process within it. Time for one \
+     ticket:";
 
 /// The work that SQLite does.
 const SQLITE_WORK: &str = "A smaller piece of work than program one's: insertions of good form only, by \
@@ -49,7 +67,10 @@ pub fn measure(settings: &Settings) -> Report {
     text += &checks_part(settings, &subjects, &graphs);
     let curves = curves_of(plants, |measured| &measured.mean);
     text += &growth_part(&curves, plants);
-    text += &programs_part(settings);
+    let lists = lists_of(settings);
+    let programs = programs::measure(settings, &lists);
+    text += &programs_part(&programs);
+    text += &list_calls_part(&list_calls::measure(settings, &lists[..lists.len() - 1]), &programs);
     text += &sqlite_part(settings);
     Report { text, picture: picture("One host call, mean of five tickets", &curves) }
 }
@@ -119,28 +140,54 @@ fn growth_part(curves: &[Curve], plants: &[host_calls::Measured]) -> String {
     )
 }
 
-fn programs_part(settings: &Settings) -> String {
-    let lists = [
+/// The lists for program one, and last no tickets at all.
+fn lists_of(settings: &Settings) -> [(&'static str, Vec<u8>); 5] {
+    [
         ("mostly bad", lists::mostly_bad(1_000_000 / settings.share)),
         ("plants", lists::plants(200_000 / settings.share)),
         ("plants, filled", lists::filled_plants(200_000 / settings.share)),
         ("dense", lists::dense(400_000 / settings.share)),
         ("start of the process", Vec::new()),
-    ];
-    let mut measured = programs::measure(settings, &lists);
-    let start = measured.pop().expect("the last list is empty").line;
+    ]
+}
+
+fn programs_part(measured: &[programs::Measured]) -> String {
+    let (start, measured) = measured.split_last().expect("the last list is empty");
     let mut rows = vec![["list", "tickets", "accepted"].map(String::from).to_vec()];
-    rows.extend(
-        measured.iter().map(|m| vec![m.line.work.clone(), m.tickets.to_string(), m.accepted.to_string()]),
-    );
-    let lines: Vec<Line> = measured.into_iter().map(|m| m.line).collect();
+    rows.extend(measured.iter().map(|m| counts(&m.line, &[m.tickets, m.accepted])));
+    let lines: Vec<Line> = measured.iter().map(|m| m.line.clone()).collect();
     format!(
         "\n## Program one\n\n{}\n{}\nTime for one ticket:\n\n{}\nTime to start and end without tickets, \
          which is within the times above:\n\n{}",
         filled(LISTS),
         laid_out(&rows),
         table("list", Unit::Nanoseconds, &lines),
-        table("process", Unit::Microseconds, &[start])
+        table("process", Unit::Microseconds, slice::from_ref(&start.line))
+    )
+}
+
+/// A row of numbers about a line's work.
+fn counts(line: &Line, numbers: &[usize]) -> Vec<String> {
+    let numbers = numbers.iter().map(|number| number.to_string());
+    std::iter::once(line.work.clone()).chain(numbers).collect()
+}
+
+fn list_calls_part(measured: &[list_calls::Measured], programs: &[programs::Measured]) -> String {
+    let mut rows = vec![["list", "tickets", "accepted", "facts at the end"].map(String::from).to_vec()];
+    rows.extend(measured.iter().map(|m| counts(&m.list_calls, &[m.tickets, m.accepted, m.facts])));
+    let list_calls: Vec<Line> = measured.iter().map(|m| m.list_calls.clone()).collect();
+    let single_calls: Vec<Line> = measured.iter().map(|m| m.single_calls.clone()).collect();
+    let (_, programs) = programs.split_last().expect("the last list is empty");
+    let whole_lists: Vec<Line> = programs.iter().map(|m| m.list_calls.clone()).collect();
+    format!(
+        "\n## The list call\n\n{}\n{}\nTime for one ticket:\n\n{}\n{}\n{}\n{}\n{}",
+        filled(LIST_CALLS),
+        laid_out(&rows),
+        table("list", Unit::Nanoseconds, &list_calls),
+        filled(SINGLE_CALLS),
+        table_of("list", &["single calls", "list call"], Unit::Nanoseconds, &single_calls),
+        filled(WHOLE_LISTS),
+        table_of("list", &["list call", "program one"], Unit::Nanoseconds, &whole_lists),
     )
 }
 

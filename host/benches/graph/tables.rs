@@ -23,8 +23,8 @@ pub fn filled(text: &str) -> String {
     lines.join("\n") + "\n"
 }
 
-/// One piece of work and what it takes each candidate, in nanoseconds, with the proved one's ratio to each
-/// rival.
+/// One piece of work and what it takes each candidate, in nanoseconds, with the ratio of the first to each
+/// other.
 #[derive(Clone)]
 pub struct Line {
     pub work: String,
@@ -64,10 +64,14 @@ pub enum Unit {
 
 /// A table with a column for each candidate and the proved one's ratio to each rival.
 pub fn table(first: &str, unit: Unit, lines: &[Line]) -> String {
-    let [proved, sorted, bits] = NAMES;
-    let heads = [first, proved, sorted, bits].map(String::from).to_vec();
-    let ratios = [format!("{proved} / {sorted}"), format!("{proved} / {bits}")];
-    let mut rows = vec![[heads, ratios.to_vec()].concat()];
+    table_of(first, &NAMES, unit, lines)
+}
+
+/// A table with a column for each name and the ratio of the first to each other.
+pub fn table_of(first: &str, names: &[&str], unit: Unit, lines: &[Line]) -> String {
+    let heads = std::iter::once(first).chain(names.iter().copied()).map(String::from);
+    let ratios = names[1..].iter().map(|other| format!("{} / {other}", names[0]));
+    let mut rows = vec![heads.chain(ratios).collect()];
     rows.extend(lines.iter().map(|line| cells(unit, line)));
     laid_out(&rows)
 }

@@ -1,12 +1,16 @@
-//! Program one, program two, `run_calls` and the host call beside the independent implementation.
+//! Program one, program two, `run_calls` and the calls across the C interface beside the independent
+//! implementation.
 //! VIMELOSA_TEST_ROUNDS runs each test that many times as long, VIMELOSA_TEST_SEED draws other tickets.
 
+mod check_call;
 #[path = "../generator/mod.rs"]
 mod generator;
 mod guarded;
 mod host_call;
 #[path = "../independent/mod.rs"]
 mod independent;
+mod list_buffers;
+mod list_call;
 #[path = "../process/mod.rs"]
 mod process;
 mod program_one;

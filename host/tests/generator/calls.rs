@@ -1,7 +1,7 @@
 //! Host calls of every sort, for whoever compares two implementations of it.
 
 use super::damage::{damaged, each_contents_byte_changed};
-use super::graphs::{disturbed, grown, image, marked};
+use super::graphs::{disturbed, grown, image, marked, overlong};
 use super::tickets::{any_ticket, ALL_IDS, FEW, MANY};
 use super::Random;
 use crate::independent::table::fresh_graph;
@@ -45,10 +45,13 @@ pub fn on_damaged_images(random: &mut Random, rounds: usize, same_call: SameCall
     }
 }
 
-/// An image with each byte of the contents changed.
+/// An image with each byte of the contents changed, and one of too many facts, whole and without its start.
 pub fn on_changed_contents(random: &mut Random, same_call: SameCall) {
     let whole = image(&grown(random, &MANY, 40, 2048));
     for changed in each_contents_byte_changed(&whole) {
         same_call(&changed, &[1, 3, 77, 0, 0], LONGEST_IMAGE);
     }
+    let overlong = image(&overlong());
+    same_call(&overlong, &[1, 1, 2, 0, 0], LONGEST_IMAGE);
+    same_call(&overlong[1..], &[1, 1, 2, 0, 0], LONGEST_IMAGE);
 }

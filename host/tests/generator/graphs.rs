@@ -26,16 +26,57 @@ pub fn grown(random: &mut Random, ids: &Ids, tickets: usize, most: usize) -> Gra
 pub fn disturbed(random: &mut Random, ids: &Ids, most: usize) -> Graph {
     let mut graph = grown(random, ids, 35, most);
     for _ in 0..random.below(3) {
-        let facts: Vec<Fact> = graph.facts().collect();
-        if random.is_one_in(2) && !facts.is_empty() {
-            graph.take([random.pick(&facts)]);
-        } else {
-            let [_, kind, a, b, c] = ticket(random, ids);
-            let kind = random.pick(&[kind, DOMAIN, RANGE]);
-            graph.put(Some(fact(kind, a, b, c)).filter(Fact::is_fact));
+        disturb(random, ids, &mut graph);
+    }
+    graph
+}
+
+/// A consistent graph of any number of tickets below 60, then one or two facts taken out or put in, most of
+/// them of ids that the graph knows. It breaks a rule more often than not, and each of the rules is the first
+/// now and then.
+pub fn broken(random: &mut Random, ids: &Ids) -> Graph {
+    let tickets = random.below(60);
+    let mut graph = grown(random, ids, tickets, 80);
+    for _ in 0..1 + random.below(2) {
+        match known_fact(random, &graph) {
+            Some(fact) if !random.is_one_in(3) => graph.put([fact]),
+            _ => disturb(random, ids, &mut graph),
         }
     }
     graph
+}
+
+/// A fact between ids of the graph that are of its sorts, or an id of one sort as one of another; none where
+/// the graph has none of a sort.
+fn known_fact(random: &mut Random, graph: &Graph) -> Option<Fact> {
+    let choice = random.below(10);
+    let sorts = [(); 2].map(|_| CLASS + random.below(4) as u8);
+    let mut one = |kind: u8| {
+        let known: Vec<u8> = graph.of_kind(kind).map(|fact| fact.a).collect();
+        (!known.is_empty()).then(|| random.pick(&known))
+    };
+    Some(match choice {
+        0 => fact(sorts[0], one(sorts[1])?, 0, 0),
+        1 => subclass(one(CLASS)?, one(CLASS)?),
+        2..=4 => subproperty(one(PROPERTY)?, one(PROPERTY)?),
+        5 => domain(one(PROPERTY)?, one(CLASS)?),
+        6 => range(one(PROPERTY)?, one(CLASS)?),
+        7 => member(one(INDIVIDUAL)?, one(CLASS)?),
+        8 => value(one(INDIVIDUAL)?, one(INDIVIDUAL)?, one(PROPERTY)?),
+        _ => value(one(INDIVIDUAL)?, one(LITERAL)?, one(PROPERTY)?),
+    })
+}
+
+/// A fact taken out or put in.
+fn disturb(random: &mut Random, ids: &Ids, graph: &mut Graph) {
+    let facts: Vec<Fact> = graph.facts().collect();
+    if random.is_one_in(2) && !facts.is_empty() {
+        graph.take([random.pick(&facts)]);
+    } else {
+        let [_, kind, a, b, c] = ticket(random, ids);
+        let kind = random.pick(&[kind, DOMAIN, RANGE]);
+        graph.put(Some(fact(kind, a, b, c)).filter(Fact::is_fact));
+    }
 }
 
 /// A consistent graph with the mark in place of one of its ids: the rules hold as before, but it is not made

@@ -143,13 +143,22 @@ pub fn any_ticket(random: &mut Random, ids: &Ids) -> Vec<u8> {
     }
 }
 
+/// So many tickets, one in twenty bad.
+pub fn records(random: &mut Random, ids: &Ids, count: usize) -> Vec<u8> {
+    let mut draw = || {
+        let is_bad = random.is_one_in(20);
+        if is_bad {
+            bad_ticket(random, ids)
+        } else {
+            ticket(random, ids)
+        }
+    };
+    (0..count).flat_map(|_| draw()).collect()
+}
+
 /// A list of so many tickets, one in twenty bad, with up to four bytes left over.
 pub fn list(random: &mut Random, ids: &Ids, count: usize) -> Vec<u8> {
-    let mut bytes = Vec::new();
-    for _ in 0..count {
-        let is_bad = random.is_one_in(20);
-        bytes.extend(if is_bad { bad_ticket(random, ids) } else { ticket(random, ids) });
-    }
+    let mut bytes = records(random, ids, count);
     let leftover = random.below(5);
     bytes.extend((0..leftover).map(|_| random.byte()));
     bytes

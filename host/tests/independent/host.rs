@@ -1,8 +1,13 @@
-//! The host call.
+//! The calls across the C interface: one ticket, a list of tickets, the check.
 
-use super::image::{read, write};
+use super::image::{facts_in, read, write};
+use super::list::{apply_list, TICKET_LENGTH};
+use super::rules::{first_broken, place_of};
 use super::table::MOST_WORDS;
 use super::ticket::apply;
+
+/// The counts of a list call have 16 bits each, so a list has at most so many tickets.
+pub const MOST_TICKETS: usize = 65_535;
 
 /// Reads the image into 2,048 words, applies the ticket, writes the output; refuses as these steps do in this
 /// order. The number holds the answer, the facts added, the facts removed and the image's length, 16 bits
@@ -20,6 +25,45 @@ pub fn host_call(image: &[u8], ticket: &[u8], output: &mut [u8]) -> u64 {
     match write(&table, output) {
         (0, length) => packed(0, answer.added, answer.removed, length),
         (refusal, _) => packed(refusal, 0, 0, 0),
+    }
+}
+
+/// Reads the image into 2,048 words, runs the tickets on them in turn, writes each ticket's number to its
+/// answer byte and what is left to the output. Refusals 12, 11, 3, 14, 13; refused, it leaves every answer
+/// byte and every byte of the output as it was. The number holds the answer, the tickets accepted, the
+/// tickets refused and the image's length, 16 bits each, lowest first, the last three 0 on refusal.
+pub fn host_list_call(image: &[u8], tickets: &[u8], answers: &mut [u8], output: &mut [u8]) -> u64 {
+    let mut table = [0; MOST_WORDS];
+    let refusal = read(image, &mut table);
+    if refusal != 0 {
+        return packed(refusal, 0, 0, 0);
+    }
+    let count = tickets.chunks(TICKET_LENGTH).len();
+    if count > answers.len() || count > MOST_TICKETS {
+        return packed(14, 0, 0, 0);
+    }
+    let mut numbers = vec![0; count];
+    let answer = apply_list(&mut table, tickets, &mut numbers);
+    assert_eq!(answer.number, 0, "the table is consistent, and each ticket has its byte");
+    match write(&table, output) {
+        (0, length) => {
+            answers[..count].copy_from_slice(&numbers);
+            packed(0, answer.accepted, answer.refused, length)
+        }
+        (refusal, _) => packed(refusal, 0, 0, 0),
+    }
+}
+
+/// The answer of reading the image into 2,048 words; for 3 also, in the next 16 bits, the place of the first
+/// rule that the image's graph breaks, counted from 1.
+pub fn host_check(image: &[u8]) -> u64 {
+    match read(image, &mut [0; MOST_WORDS]) {
+        3 => {
+            let graph = facts_in(image).expect("the image is well formed");
+            let rule = first_broken(&graph).expect("the graph is not consistent");
+            packed(3, place_of(rule), 0, 0)
+        }
+        answer => packed(answer, 0, 0, 0),
     }
 }
 

@@ -4,6 +4,72 @@
 use super::fact::*;
 use super::graph::Graph;
 
+/// A rule: how many of the ids x, y, z, w it speaks of, and whether the graph meets it for these.
+type Rule = (usize, fn(&Graph, [u8; 4]) -> bool);
+
+/// In document 01's order.
+const RULES: [Rule; 28] = [
+    // 4, 5, 6
+    (1, |g, [x, ..]| !(g.has(class(x)) && g.has(property(x)))),
+    (1, |g, [x, ..]| !(g.has(class(x)) && g.has(individual(x)))),
+    (1, |g, [x, ..]| !(g.has(property(x)) && g.has(individual(x)))),
+    // 7, 8, 9, 10
+    (2, |g, [x, y, ..]| !g.has(subclass(x, y)) || (g.has(class(x)) && g.has(class(y)))),
+    (2, |g, [x, y, ..]| !g.has(subproperty(x, y)) || (g.has(property(x)) && g.has(property(y)))),
+    (2, |g, [x, y, ..]| !g.has(domain(x, y)) || (g.has(property(x)) && g.has(class(y)))),
+    (2, |g, [x, y, ..]| !g.has(range(x, y)) || (g.has(property(x)) && (g.has(class(y)) || y == MARK))),
+    // 11, 12
+    (2, |g, [x, y, ..]| !g.has(member(x, y)) || (g.has(individual(x)) && g.has(class(y)))),
+    (3, |g, [x, y, z, _]| !g.has(value(x, y, z)) || value_has_ends(g, x, y, z)),
+    // 13, 14, 15
+    (1, |g, [x, ..]| !g.has(class(x)) || x == RESOURCE || g.has(subclass(x, RESOURCE))),
+    (1, |g, [x, ..]| !g.has(individual(x)) || g.has(member(x, RESOURCE))),
+    (1, |g, [x, ..]| !g.has(property(x)) || (has_some(g, DOMAIN, x) && has_some(g, RANGE, x))),
+    // 16, 17
+    (3, |g, [x, y, z, _]| !(g.has(domain(x, y)) && g.has(domain(x, z))) || y == z),
+    (3, |g, [x, y, z, _]| !(g.has(range(x, y)) && g.has(range(x, z))) || y == z),
+    // 18, 19
+    (3, |g, [x, y, z, _]| !(g.has(subclass(x, y)) && g.has(subclass(y, z))) || g.has(subclass(x, z))),
+    (2, |g, [x, y, ..]| !(g.has(subclass(x, y)) && (x == y || g.has(subclass(y, x))))),
+    // 20, 21
+    (3, |g, [x, y, z, _]| {
+        !(g.has(subproperty(x, y)) && g.has(subproperty(y, z))) || g.has(subproperty(x, z))
+    }),
+    (2, |g, [x, y, ..]| !(g.has(subproperty(x, y)) && (x == y || g.has(subproperty(y, x))))),
+    // 22, 23
+    (4, |g, [x, y, z, w]| !links_domains(g, x, y, z, w) || z == w || g.has(subclass(z, w))),
+    (4, |g, [x, y, z, w]| {
+        !links_ranges(g, x, y, z, w) || z == MARK || w == MARK || z == w || g.has(subclass(z, w))
+    }),
+    // 24, 25
+    (4, |g, [x, y, z, w]| !(g.has(domain(z, w)) && g.has(value(x, y, z))) || g.has(member(x, w))),
+    (4, |g, [x, y, z, w]| !(g.has(range(z, w)) && w != MARK && g.has(value(x, y, z))) || g.has(member(y, w))),
+    // 26, 27
+    (3, |g, [x, y, z, _]| !(g.has(subclass(y, z)) && g.has(member(x, y))) || g.has(member(x, z))),
+    (4, |g, [x, y, z, w]| !(g.has(subproperty(z, w)) && g.has(value(x, y, z))) || g.has(value(x, y, w))),
+    // H1, H2, H3, H4
+    (0, |g, _| g.has(class(RESOURCE))),
+    (1, |g, [x, ..]| !g.has(literal(x)) || !(g.has(class(x)) || g.has(property(x)) || g.has(individual(x)))),
+    (3, |g, [x, y, z, _]| !(g.has(range(z, MARK)) && g.has(value(x, y, z))) || g.has(literal(y))),
+    (4, |g, [x, y, z, w]| !links_ranges(g, x, y, z, w) || (z == MARK) == (w == MARK)),
+];
+
+fn value_has_ends(g: &Graph, x: u8, y: u8, z: u8) -> bool {
+    g.has(individual(x)) && g.has(property(z)) && (g.has(individual(y)) || g.has(literal(y)))
+}
+
+fn has_some(g: &Graph, kind: u8, x: u8) -> bool {
+    g.of_first(kind, x).next().is_some()
+}
+
+fn links_domains(g: &Graph, x: u8, y: u8, z: u8, w: u8) -> bool {
+    g.has(subproperty(x, y)) && g.has(domain(x, z)) && g.has(domain(y, w))
+}
+
+fn links_ranges(g: &Graph, x: u8, y: u8, z: u8, w: u8) -> bool {
+    g.has(subproperty(x, y)) && g.has(range(x, z)) && g.has(range(y, w))
+}
+
 /// All ids that occur in the graph, and the two that document 01 names.
 fn ids_in(graph: &Graph) -> Vec<u8> {
     let mut ids: Vec<u8> = graph.facts().flat_map(|fact| fact.ids()).collect();
@@ -13,82 +79,27 @@ fn ids_in(graph: &Graph) -> Vec<u8> {
     ids
 }
 
-/// All pairs of ids.
-fn pairs(ids: &[u8]) -> Vec<(u8, u8)> {
-    let second = |x: u8| ids.iter().map(move |y| (x, *y));
-    ids.iter().flat_map(|x| second(*x)).collect()
+/// The graph meets the rule for all choices of ids from a place on.
+fn is_met(rule: &Rule, graph: &Graph, ids: &[u8], chosen: [u8; 4], place: usize) -> bool {
+    let (count, holds) = rule;
+    if place == *count {
+        return holds(graph, chosen);
+    }
+    ids.iter().all(|id| {
+        let mut more = chosen;
+        more[place] = *id;
+        is_met(rule, graph, ids, more, place + 1)
+    })
+}
+
+/// The place of the first rule that the graph breaks, counted from 1, if it breaks one.
+pub fn first_broken(graph: &Graph) -> Option<usize> {
+    let ids = ids_in(graph);
+    let broken = RULES.iter().position(|rule| !is_met(rule, graph, &ids, [0; 4], 0));
+    broken.map(|place| place + 1)
 }
 
 /// The graph meets every rule.
 pub fn is_consistent(graph: &Graph) -> bool {
-    let ids = ids_in(graph);
-    graph.has(class(RESOURCE))
-        && ids.iter().all(|x| meets_rules_of_one(graph, &ids, *x))
-        && pairs(&ids)
-            .iter()
-            .all(|(x, y)| meets_rules_of_two(graph, *x, *y) && meets_rules_of_more(graph, &ids, *x, *y))
-}
-
-/// Rules 4, 5, 6, 13, 14, 15, 16, 17 and H2: those that speak of one id and its company.
-fn meets_rules_of_one(g: &Graph, ids: &[u8], x: u8) -> bool {
-    let sorts = [class(x), property(x), individual(x), literal(x)];
-    let count = |end: fn(u8, u8) -> Fact| ids.iter().filter(|y| g.has(end(x, **y))).count();
-    let (domains, ranges) = (count(domain), count(range));
-    sorts.iter().filter(|sort| g.has(**sort)).count() <= 1
-        && (!g.has(class(x)) || x == RESOURCE || g.has(subclass(x, RESOURCE)))
-        && (!g.has(individual(x)) || g.has(member(x, RESOURCE)))
-        && (!g.has(property(x)) || (domains >= 1 && ranges >= 1))
-        && domains <= 1
-        && ranges <= 1
-}
-
-/// Rules 7 to 11, 19 and 21: those that speak of two ids.
-fn meets_rules_of_two(g: &Graph, x: u8, y: u8) -> bool {
-    let (cx, cy, px, py) = (class(x), class(y), property(x), property(y));
-    (!g.has(subclass(x, y)) || (g.has(cx) && g.has(cy) && !g.has(subclass(y, x))))
-        && (!g.has(subproperty(x, y)) || (g.has(px) && g.has(py) && !g.has(subproperty(y, x))))
-        && (!g.has(domain(x, y)) || (g.has(px) && g.has(cy)))
-        && (!g.has(range(x, y)) || (g.has(px) && (y == MARK || g.has(cy))))
-        && (!g.has(member(x, y)) || (g.has(individual(x)) && g.has(cy)))
-}
-
-/// Rules 12, 18, 20, 22 to 27, H3 and H4, where x and y are the first two ids of the rule's text.
-fn meets_rules_of_more(g: &Graph, ids: &[u8], x: u8, y: u8) -> bool {
-    ids.iter().all(|z| {
-        meets_rules_of_three(g, x, y, *z)
-            && ids
-                .iter()
-                .all(|w| meets_subproperty_ends(g, x, y, *z, *w) && meets_rules_of_values(g, x, y, *z, *w))
-    })
-}
-
-/// Rules 12, 18, 20 and 26.
-fn meets_rules_of_three(g: &Graph, x: u8, y: u8, z: u8) -> bool {
-    let ends = g.has(individual(x)) && g.has(property(z)) && (g.has(individual(y)) || g.has(literal(y)));
-    (!g.has(value(x, y, z)) || ends)
-        && (!(g.has(subclass(x, y)) && g.has(subclass(y, z))) || g.has(subclass(x, z)))
-        && (!(g.has(subproperty(x, y)) && g.has(subproperty(y, z))) || g.has(subproperty(x, z)))
-        && (!(g.has(subclass(y, z)) && g.has(member(x, y))) || g.has(member(x, z)))
-}
-
-/// Rules 22, 23 and H4.
-fn meets_subproperty_ends(g: &Graph, x: u8, y: u8, z: u8, w: u8) -> bool {
-    let linked = g.has(subproperty(x, y));
-    let domains = linked && g.has(domain(x, z)) && g.has(domain(y, w));
-    let ranges = linked && g.has(range(x, z)) && g.has(range(y, w));
-    let marks = [z, w].iter().filter(|id| **id == MARK).count();
-    (!(domains && z != w) || g.has(subclass(z, w)))
-        && (!(ranges && z != w && marks == 0) || g.has(subclass(z, w)))
-        && !(ranges && marks == 1)
-}
-
-/// Rules 24, 25, 27 and H3.
-fn meets_rules_of_values(g: &Graph, x: u8, y: u8, z: u8, w: u8) -> bool {
-    if !g.has(value(x, y, z)) {
-        return true;
-    }
-    (!g.has(domain(z, w)) || g.has(member(x, w)))
-        && (!g.has(range(z, w)) || w == MARK || g.has(member(y, w)))
-        && (!g.has(subproperty(z, w)) || g.has(value(x, y, w)))
-        && (!g.has(range(z, MARK)) || g.has(literal(y)))
+    first_broken(graph).is_none()
 }

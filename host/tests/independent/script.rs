@@ -3,7 +3,7 @@
 
 use super::image::{body, read, write};
 use super::list::apply_list;
-use super::rules::each_demand;
+use super::rules::first_broken;
 use super::table::{check, facts_of, fresh, lookup};
 use super::ticket::apply;
 
@@ -122,12 +122,7 @@ impl State {
             return format!(" {answer}");
         }
         let graph = facts_of(&self.table).expect("the table is laid out");
-        let mut first = u8::MAX;
-        each_demand(&graph, &mut |demand| {
-            if !demand.is_met(&graph) {
-                first = first.min(demand.rule);
-            }
-        });
+        let first = first_broken(&graph).expect("the table is not consistent");
         match first {
             101.. => format!(" 3 H{}", first - 100),
             _ => format!(" 3 {first}"),

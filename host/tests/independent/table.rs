@@ -60,6 +60,13 @@ pub fn fresh(table: &mut [u32]) -> u8 {
     0
 }
 
+/// A fresh table of so many words.
+pub fn fresh_table(words: usize) -> Vec<u32> {
+    let mut table = vec![0; words];
+    assert_eq!(fresh(&mut table), 0);
+    table
+}
+
 pub fn check(table: &[u32]) -> u8 {
     consistent_facts_of(table).err().unwrap_or(0)
 }

@@ -1,7 +1,7 @@
 //! Two other implementations of document 01, in plain safe Rust, which the benchmark measures beside the
 //! proved one and the tests compare with the independent one: `sorted` keeps the table's words sorted and
 //! searches them, `bit_rows` keeps sets of 256 bits. What does not depend on how a table is kept they share:
-//! the form of a ticket, the clash by lookups, the contents of an image, the lines of program one.
+//! the form of a ticket, the clash by lookups, the contents of an image, the calls, the lines of program one.
 
 // The tests and the benchmark each use their own share of this module.
 #![allow(dead_code)]
@@ -15,6 +15,12 @@ pub mod program;
 pub mod sorted;
 
 use vimelosa_host::LONGEST_IMAGE;
+
+/// A list is cut into tickets of so many bytes.
+pub const TICKET_LENGTH: usize = 5;
+
+/// A list call takes so many tickets at most: its counts have 16 bits.
+const MOST_TICKETS: usize = 65_535;
 
 /// The answer to a ticket: 0 or a refusal, the facts added, the facts removed.
 #[derive(Clone, Copy, PartialEq, Eq, Debug)]
@@ -73,7 +79,35 @@ pub fn host_call<R: Rival>(image: &[u8], ticket: &[u8], output: &mut [u8]) -> u6
         return u64::from(answer.number);
     }
     match table.write(output) {
-        Ok(length) => (answer.added as u64) << 16 | (answer.removed as u64) << 32 | (length as u64) << 48,
+        Ok(length) => accepted([answer.added, answer.removed, length]),
         Err(refusal) => u64::from(refusal),
     }
+}
+
+/// The list call: reads, runs the tickets in turn, writes the image and then the answers, and answers four
+/// numbers of 16 bits, lowest first.
+pub fn list_call<R: Rival>(image: &[u8], tickets: &[u8], answers: &mut [u8], output: &mut [u8]) -> u64 {
+    let mut table = match R::read(image) {
+        Ok(table) => table,
+        Err(refusal) => return u64::from(refusal),
+    };
+    let tickets = tickets.chunks(TICKET_LENGTH);
+    let answers = match answers.get_mut(..tickets.len()) {
+        Some(answers) if answers.len() <= MOST_TICKETS => answers,
+        _ => return 14,
+    };
+    let numbers: Vec<u8> = tickets.map(|ticket| table.apply(ticket).number).collect();
+    match table.write(output) {
+        Ok(length) => {
+            answers.copy_from_slice(&numbers);
+            let refused = numbers.iter().filter(|number| **number != 0).count();
+            accepted([numbers.len() - refused, refused, length])
+        }
+        Err(refusal) => u64::from(refusal),
+    }
+}
+
+/// The number of an accepted call: the answer 0, and three more numbers of 16 bits.
+pub fn accepted(numbers: [usize; 3]) -> u64 {
+    numbers.iter().rev().fold(0, |all, number| all << 16 | *number as u64) << 16
 }

@@ -1,9 +1,8 @@
 //! Program one over a rival: tickets from standard input on a fresh table, a line for each.
 
-use super::{Answer, Rival};
+use super::{Answer, Rival, TICKET_LENGTH};
 use std::io::{Read, Result, Write};
 
-const TICKET_LENGTH: usize = 5;
 const BUFFER_LENGTH: usize = 1 << 16;
 
 /// Reads all tickets, prints a line for each and last the count of facts.

@@ -1,0 +1,190 @@
+/* Vimelosa: one RDF/S graph of at most 2,048 facts, held in an image, changed by tickets.
+ *
+ * Every call is given an image, which is a graph in bytes; the calls that change the graph write a new image
+ * to an output. A ticket is five bytes that ask to insert or to delete: operation, kind, and the ids a, b, c,
+ * unused ones 0. Ids are chosen by the caller, but 0 is Resource, the class of everything, and 1 is the mark
+ * Literal, which is a range and names nothing else.
+ *
+ * Image. Byte 0 is 1 and byte 1 is 10. Then each kind from 1 to 10 has an entry of six bytes: the kind; the
+ * bytes per fact; the place in the image where its facts start, and how many there are, both 16 bits with the
+ * low byte first. The facts follow from byte 62 on, by kind, ascending, each as its ids.
+ *
+ * C. C99 or later, or C++11 or later. The archive libvimelosa.a needs memcpy and memset, and nothing else.
+ *
+ * Buffers. A buffer is passed as a pointer and then its length in bytes. All buffers belong to the caller,
+ * before and after a call: the library keeps none of them, and takes no memory but the stack. A call writes
+ * to `answers` and `output` only, and these must not overlap each other or any other buffer of the call.
+ * Buffers that are only read may overlap. None needs an alignment. Where a length is 0 the pointer may be
+ * null.
+ *
+ * Threads. There is no global state. Calls on different buffers may run at once, and calls that only read the
+ * same buffer may too. A stack of 64 KB is enough for the deepest calls known.
+ *
+ * Results. A call returns its answer in the lowest 16 bits: 0, or the number of a refusal. A call refuses
+ * with the first refusal, in its own order, whose condition holds, and only then. A refused call leaves every
+ * byte of its buffers as it was, and the other parts of its result are 0, but for the rule's place that
+ * vimelosa_check tells with 3.
+ */
+#ifndef VIMELOSA_H
+#define VIMELOSA_H
+
+#include <stddef.h>
+#include <stdint.h>
+
+#ifdef __cplusplus
+extern "C" {
+#endif
+
+/* No image that a call accepts or writes has more bytes: an output of so many is never too short. */
+#define VIMELOSA_LONGEST_IMAGE 6206
+
+/* A graph has at most so many facts. */
+#define VIMELOSA_MOST_FACTS 2048
+
+/* A ticket has so many bytes. */
+#define VIMELOSA_TICKET 5
+
+/* The image to start from, of a graph that has the class Resource alone:
+ * const uint8_t fresh[] = VIMELOSA_FRESH_IMAGE; */
+#define VIMELOSA_FRESH_IMAGE { 1, 10, \
+    1, 1, 62, 0, 1, 0,  2, 1, 63, 0, 0, 0,  3, 1, 63, 0, 0, 0,  4, 1, 63, 0, 0, 0,  5, 2, 63, 0, 0, 0, \
+    6, 2, 63, 0, 0, 0,  7, 2, 63, 0, 0, 0,  8, 2, 63, 0, 0, 0,  9, 2, 63, 0, 0, 0,  10, 3, 63, 0, 0, 0, \
+    0 }
+
+/* The operations of tickets. */
+enum vimelosa_operation {
+    VIMELOSA_INSERT = 1,
+    VIMELOSA_DELETE = 2
+};
+
+/* The kinds of facts. Tickets have all but 7 and 8, which come and go with their property. */
+enum vimelosa_kind {
+    /* a is a class. */
+    VIMELOSA_CLASS = 1,
+    /* a is a property. The ticket that inserts it has its domain as b and its range as c, a class or 1. */
+    VIMELOSA_PROPERTY = 2,
+    /* a is an individual. */
+    VIMELOSA_INDIVIDUAL = 3,
+    /* a is a literal. */
+    VIMELOSA_LITERAL = 4,
+    /* Class a is a subclass of class b. */
+    VIMELOSA_SUBCLASS = 5,
+    /* Property a is a subproperty of property b. */
+    VIMELOSA_SUBPROPERTY = 6,
+    /* Class b is the domain of property a. */
+    VIMELOSA_DOMAIN = 7,
+    /* b is the range of property a, a class or 1. */
+    VIMELOSA_RANGE = 8,
+    /* Individual a is a member of class b. */
+    VIMELOSA_MEMBER = 9,
+    /* Individual a has the value b, an individual or a literal, for property c. */
+    VIMELOSA_VALUE = 10
+};
+
+/* The refusals. 1 and 2 are of calls on tables of words, which this interface does not have; they are here so
+ * that every number has its name. */
+enum vimelosa_refusal {
+    /* A table of no words or above 2,048. */
+    VIMELOSA_BAD_SIZE = 1,
+    /* A table whose facts are not ascending, stand twice or are not followed by zeros alone. */
+    VIMELOSA_BAD_LAYOUT = 2,
+    /* The image's graph breaks a rule. */
+    VIMELOSA_INCONSISTENT = 3,
+    /* The ticket's length is not 5. */
+    VIMELOSA_BAD_LENGTH = 4,
+    /* The ticket's operation is neither 1 nor 2. */
+    VIMELOSA_BAD_OPERATION = 5,
+    /* The ticket's kind is not 1 to 10, or it is 7 or 8, which are no tickets. */
+    VIMELOSA_BAD_KIND = 6,
+    /* An unused byte of the ticket is not 0, or id 1 stands elsewhere than as the range of a new property. */
+    VIMELOSA_BAD_IDS = 7,
+    /* The ticket deletes Resource, or a link or a membership that leads to it. */
+    VIMELOSA_GUARDED = 8,
+    /* The ticket inserts a link of properties, or a value, with a property that the graph does not have. */
+    VIMELOSA_UNKNOWN_PROPERTY = 9,
+    /* No consistent graph holds the graph and what the ticket inserts. */
+    VIMELOSA_CLASHING = 10,
+    /* The new graph, or in reading the image's, has more than 2,048 facts. */
+    VIMELOSA_TOO_MANY = 11,
+    /* The image is malformed. */
+    VIMELOSA_MALFORMED = 12,
+    /* The output is shorter than the new image. */
+    VIMELOSA_SHORT_OUTPUT = 13,
+    /* There are fewer answer bytes than tickets, or more than 65,535 tickets. */
+    VIMELOSA_FEW_ANSWERS = 14
+};
+
+/* Applies one ticket to the image's graph and writes the new image to the output.
+ *
+ * Refusals, in this order: 12, 11, 3 of the image; 4, 5, 6, 7, 8, 9, 10, 11 of the ticket; 13 of the output.
+ *
+ * The result has four parts: vimelosa_answer, vimelosa_added and vimelosa_removed, which count facts, and
+ * vimelosa_length, the new image's length. Bytes of the output after the new image are left as they were. */
+uint64_t vimelosa_apply(const uint8_t *image, size_t image_length,
+                        const uint8_t *ticket, size_t ticket_length,
+                        uint8_t *output, size_t output_length);
+
+/* Runs a list of tickets on the image's graph, each on what the one before left, and writes the image of what
+ * the last leaves to the output. Every five bytes of `tickets` are a ticket; bytes left over at the end are
+ * one more, which is refused with 4. Each ticket's number goes to its byte of `answers`: 0, or 4 to 11. A
+ * refused ticket changes nothing, and the tickets after it are run all the same: the call is not refused.
+ *
+ * Refusals of the call, in this order: 12, 11, 3 of the image; 14 of the answers; 13 of the output. With 13
+ * too, every answer byte is left as it was.
+ *
+ * The result has four parts: vimelosa_answer, vimelosa_accepted and vimelosa_refused, which count tickets,
+ * and vimelosa_length, the new image's length. Answer bytes after those of the tickets, and bytes of the
+ * output after the new image, are left as they were. */
+uint64_t vimelosa_apply_list(const uint8_t *image, size_t image_length,
+                             const uint8_t *tickets, size_t tickets_length,
+                             uint8_t *answers, size_t answers_length,
+                             uint8_t *output, size_t output_length);
+
+/* Reads the image and writes nothing: 0 if it is well formed and its graph is consistent.
+ *
+ * Refusals, in this order: 12, 11, 3.
+ *
+ * The result has two parts: vimelosa_answer and vimelosa_rule_place, which is 0 unless the answer is 3. */
+uint64_t vimelosa_check(const uint8_t *image, size_t image_length);
+
+/* The answer of any call: 0, or the number of a refusal. */
+static inline uint16_t vimelosa_answer(uint64_t result) {
+    return (uint16_t)(result & 0xffff);
+}
+
+/* Of vimelosa_apply: how many facts the new graph has that the old one has not. */
+static inline uint16_t vimelosa_added(uint64_t result) {
+    return (uint16_t)(result >> 16 & 0xffff);
+}
+
+/* Of vimelosa_apply: how many facts the old graph has that the new one has not. */
+static inline uint16_t vimelosa_removed(uint64_t result) {
+    return (uint16_t)(result >> 32 & 0xffff);
+}
+
+/* Of vimelosa_apply_list: how many tickets were accepted. */
+static inline uint16_t vimelosa_accepted(uint64_t result) {
+    return (uint16_t)(result >> 16 & 0xffff);
+}
+
+/* Of vimelosa_apply_list: how many tickets were refused. */
+static inline uint16_t vimelosa_refused(uint64_t result) {
+    return (uint16_t)(result >> 32 & 0xffff);
+}
+
+/* Of vimelosa_apply and vimelosa_apply_list: how many bytes the new image has. */
+static inline size_t vimelosa_length(uint64_t result) {
+    return (size_t)(result >> 48);
+}
+
+/* Of vimelosa_check, where the answer is 3: the place, counted from 1, of the first rule that the graph
+ * breaks. Rules 4 to 27 have places 1 to 24, H1 to H4 places 25 to 28. For other answers it is 0. */
+static inline uint16_t vimelosa_rule_place(uint64_t result) {
+    return (uint16_t)(result >> 16 & 0xffff);
+}
+
+#ifdef __cplusplus
+}
+#endif
+
+#endif

@@ -1,0 +1,137 @@
+/* Uses the header as a caller in C would: a fresh image, one ticket, a list, the check, refusals, and null
+ * where a buffer is empty. Each line that it prints is a call and what it gave. */
+
+#include "vimelosa.h"
+
+#include <stdio.h>
+#include <string.h>
+
+static const uint8_t fresh[] = VIMELOSA_FRESH_IMAGE;
+
+static const uint8_t tickets[] = {
+    VIMELOSA_INSERT, VIMELOSA_CLASS, 2, 0, 0,
+    VIMELOSA_INSERT, VIMELOSA_SUBCLASS, 3, 2, 0,
+    VIMELOSA_INSERT, VIMELOSA_MEMBER, 4, 3, 0,
+    VIMELOSA_DELETE, VIMELOSA_MEMBER, 4, 2, 0, /* and so from class 3 */
+    VIMELOSA_INSERT, VIMELOSA_SUBCLASS, 2, 3, 0, /* which clashes */
+    VIMELOSA_INSERT, VIMELOSA_CLASS, /* no whole ticket */
+};
+
+enum { TICKETS = 6 };
+
+/* A byte that no call writes here. */
+enum { LENT = 0xee };
+
+static uint8_t answers[TICKETS + 1];
+static uint8_t output[VIMELOSA_LONGEST_IMAGE];
+
+static void lend(void) {
+    memset(answers, LENT, sizeof answers);
+    memset(output, LENT, sizeof output);
+}
+
+static int is_as_lent(const uint8_t *bytes, size_t length) {
+    for (size_t place = 0; place < length; place++) {
+        if (bytes[place] != LENT) {
+            return 0;
+        }
+    }
+    return 1;
+}
+
+static void print_apply(const char *what, uint64_t result) {
+    size_t length = vimelosa_length(result);
+    printf("%s: answer %u, added %u, removed %u, length %u, rest as lent %d\n", what,
+           (unsigned)vimelosa_answer(result), (unsigned)vimelosa_added(result),
+           (unsigned)vimelosa_removed(result), (unsigned)length,
+           is_as_lent(output + length, sizeof output - length));
+}
+
+static void print_list(const char *what, uint64_t result) {
+    size_t length = vimelosa_length(result);
+    size_t told = (size_t)vimelosa_accepted(result) + vimelosa_refused(result);
+    printf("%s: answer %u, accepted %u, refused %u, length %u, rest as lent %d\n", what,
+           (unsigned)vimelosa_answer(result), (unsigned)vimelosa_accepted(result),
+           (unsigned)vimelosa_refused(result), (unsigned)length,
+           is_as_lent(answers + told, sizeof answers - told) &&
+               is_as_lent(output + length, sizeof output - length));
+}
+
+static void print_check(const char *what, uint64_t result) {
+    printf("%s: answer %u, rule place %u, above %u\n", what, (unsigned)vimelosa_answer(result),
+           (unsigned)vimelosa_rule_place(result), (unsigned)(result >> 32));
+}
+
+static void print_bytes(const char *what, const uint8_t *bytes, size_t length) {
+    printf("%s:", what);
+    for (size_t place = 0; place < length; place++) {
+        printf(" %d", bytes[place]);
+    }
+    printf("\n");
+}
+
+static void single_calls(void) {
+    lend();
+    uint64_t result = vimelosa_apply(fresh, sizeof fresh, tickets, VIMELOSA_TICKET, output, sizeof output);
+    print_apply("insert class 2", result);
+    lend();
+    const uint8_t guarded[VIMELOSA_TICKET] = {VIMELOSA_DELETE, VIMELOSA_CLASS, 0, 0, 0};
+    result = vimelosa_apply(fresh, sizeof fresh, guarded, sizeof guarded, output, sizeof output);
+    printf("delete Resource is guarded: %d\n", vimelosa_answer(result) == VIMELOSA_GUARDED);
+    print_apply("delete Resource", result);
+    result = vimelosa_apply(fresh, sizeof fresh, tickets, VIMELOSA_TICKET, output, sizeof fresh);
+    printf("the output is short: %d\n", vimelosa_answer(result) == VIMELOSA_SHORT_OUTPUT);
+    print_apply("short output", result);
+}
+
+/* Leaves the plant's image in the output. */
+static void list_calls(void) {
+    lend();
+    uint64_t result = vimelosa_apply_list(fresh, sizeof fresh, tickets, sizeof tickets, answers, TICKETS - 1,
+                                          output, sizeof output);
+    printf("the answers are few: %d\n", vimelosa_answer(result) == VIMELOSA_FEW_ANSWERS);
+    print_list("few answers", result);
+    result = vimelosa_apply_list(fresh, sizeof fresh, tickets, sizeof tickets, answers, sizeof answers,
+                                 output, 73);
+    print_list("short output", result);
+    result = vimelosa_apply_list(fresh, sizeof fresh, tickets, sizeof tickets, answers, sizeof answers,
+                                 output, sizeof output);
+    print_list("list", result);
+    print_bytes("answers", answers, TICKETS);
+    print_bytes("bodies", output + 62, vimelosa_length(result) - 62);
+}
+
+/* Of the image of 74 bytes in the output. */
+static void check_calls(void) {
+    uint8_t plant[74];
+    memcpy(plant, output, sizeof plant);
+    print_check("check", vimelosa_check(plant, sizeof plant));
+    print_check("check of a cut image", vimelosa_check(plant, sizeof plant - 1));
+    /* Individual 4 is in class 2 then, and not in Resource: rule 14, at place 11. */
+    plant[sizeof plant - 1] = 2;
+    print_check("check of a bad image", vimelosa_check(plant, sizeof plant));
+    uint64_t result = vimelosa_apply(plant, sizeof plant, tickets, VIMELOSA_TICKET, output, sizeof output);
+    printf("the bad image is inconsistent: %d\n", vimelosa_answer(result) == VIMELOSA_INCONSISTENT);
+}
+
+static void empty_buffers(void) {
+    lend();
+    print_check("check of no image", vimelosa_check(NULL, 0));
+    print_apply("no image", vimelosa_apply(NULL, 0, NULL, 0, NULL, 0));
+    print_apply("no ticket", vimelosa_apply(fresh, sizeof fresh, NULL, 0, NULL, 0));
+    print_apply("no output", vimelosa_apply(fresh, sizeof fresh, tickets, VIMELOSA_TICKET, NULL, 0));
+    print_list("all empty", vimelosa_apply_list(NULL, 0, NULL, 0, NULL, 0, NULL, 0));
+    print_list("no answers", vimelosa_apply_list(fresh, sizeof fresh, tickets, 5, NULL, 0, NULL, 0));
+    print_list("no tickets, no output", vimelosa_apply_list(fresh, sizeof fresh, NULL, 0, NULL, 0, NULL, 0));
+    uint64_t result = vimelosa_apply_list(fresh, sizeof fresh, NULL, 0, NULL, 0, output, sizeof output);
+    print_list("no tickets", result);
+    printf("the image is the old one: %d\n", memcmp(output, fresh, sizeof fresh) == 0);
+}
+
+int main(void) {
+    single_calls();
+    list_calls();
+    check_calls();
+    empty_buffers();
+    return 0;
+}

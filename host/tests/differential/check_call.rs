@@ -1,0 +1,167 @@
+//! The check of an image across the C interface.
+
+use crate::generator::damage::{damaged, each_contents_byte_changed};
+use crate::generator::graphs::{broken, filled, grown, image, marked, overlong};
+use crate::generator::tickets::{ALL_IDS, FEW, MANY, SHARED};
+use crate::generator::{rounds, Random};
+use crate::guarded::same_check;
+use crate::independent::fact::*;
+use crate::independent::graph::Graph;
+use crate::independent::{plain, rules};
+
+/// The check's number where the rule at a place is the first that is broken.
+fn broken_at(place: usize) -> u64 {
+    3 | (place as u64) << 16
+}
+
+/// Classes 2 and 3, the second under the first; property 5 from class 2 to class 2, property 6 to literals;
+/// individual 8 in class 2; literal 10.
+fn plant() -> Graph {
+    let classes = [class(0), class(2), class(3), subclass(2, 0), subclass(3, 0), subclass(3, 2)];
+    let properties = [ends(5, 2, 2), ends(6, 2, MARK)].concat();
+    let others = [individual(8), literal(10), member(8, 0), member(8, 2)];
+    Graph::of(classes.into_iter().chain(properties).chain(others))
+}
+
+/// A property with its domain and range.
+fn ends(p: u8, from: u8, to: u8) -> [Fact; 3] {
+    [property(p), domain(p, from), range(p, to)]
+}
+
+/// An individual of no class but Resource.
+fn loose(x: u8) -> [Fact; 2] {
+    [individual(x), member(x, RESOURCE)]
+}
+
+/// The plant with more facts.
+fn with(facts: &[Fact]) -> Graph {
+    let mut graph = plant();
+    graph.put(facts.iter().copied());
+    graph
+}
+
+/// For each rule, in document 01's order, a graph that breaks it and none before it.
+fn one_for_each_rule() -> [Graph; 28] {
+    [
+        with(&[property(3)]),                              // 4
+        with(&[individual(3)]),                            // 5
+        with(&[individual(5)]),                            // 6
+        with(&[subclass(20, 0)]),                          // 7
+        with(&[subproperty(5, 20)]),                       // 8
+        with(&[domain(20, 2)]),                            // 9
+        with(&[range(20, MARK)]),                          // 10
+        with(&[member(20, 0)]),                            // 11
+        with(&[value(8, 20, 5)]),                          // 12
+        with(&[class(20)]),                                // 13
+        with(&[individual(20)]),                           // 14
+        plant().without(range(6, MARK)),                   // 15
+        with(&[domain(5, 3)]),                             // 16
+        with(&[range(5, MARK)]),                           // 17
+        with(&[class(4), subclass(4, 0), subclass(4, 3)]), // 18
+        with(&[subclass(2, 2)]),                           // 19
+        with(&[&ends(7, 2, 2)[..], &ends(9, 2, 2), &[subproperty(5, 7), subproperty(7, 9)]].concat()), // 20
+        with(&[subproperty(5, 5)]),                        // 21
+        with(&[&ends(7, 3, 2)[..], &[subproperty(5, 7)]].concat()), // 22
+        with(&[&ends(7, 2, 3)[..], &[subproperty(5, 7)]].concat()), // 23
+        with(&[&loose(9)[..], &[value(9, 8, 5)]].concat()), // 24
+        with(&[&loose(9)[..], &[value(8, 9, 5)]].concat()), // 25
+        with(&[&loose(9)[..], &[member(9, 3)]].concat()),  // 26
+        with(&[&ends(7, 2, 2)[..], &[subproperty(5, 7), value(8, 8, 5)]].concat()), // 27
+        Graph::of([literal(10)]),                          // H1
+        with(&[literal(3)]),                               // H2
+        with(&[value(8, 8, 6)]),                           // H3
+        with(&[subproperty(5, 6)]),                        // H4
+    ]
+}
+
+#[test]
+fn tells_each_rule_of_a_plant() {
+    assert_eq!(same_check(&image(&plant())), 0);
+    for (rule, graph) in one_for_each_rule().iter().enumerate() {
+        assert_eq!(same_check(&image(graph)), broken_at(rule + 1), "{graph:?}");
+    }
+}
+
+/// Graphs that break one rule or several: each of the 28 is the first now and then.
+#[test]
+fn tells_each_rule_of_broken_graphs() {
+    let mut random = Random::for_test("check_of_broken_graphs");
+    let mut met = [0; 29];
+    for round in 0..rounds(6_000) {
+        let graph = broken(&mut random, [&SHARED, &FEW, &MANY][round % 3]);
+        let number = same_check(&image(&graph));
+        met[(number >> 16) as usize] += 1;
+    }
+    assert!(met.iter().all(|count| *count > 0), "{met:?}");
+}
+
+/// The place by the rules' demands is the place by the rules read as statements about all ids.
+#[test]
+fn two_readings_give_the_same_rule() {
+    let mut random = Random::for_test("check_by_two_readings");
+    for round in 0..rounds(1_500) {
+        let graph = broken(&mut random, [&SHARED, &FEW][round % 2]);
+        let place = rules::first_broken(&graph).map(rules::place_of);
+        assert_eq!(place, plain::first_broken(&graph), "{graph:?}");
+    }
+}
+
+#[test]
+fn accepts_consistent_graphs() {
+    let mut random = Random::for_test("check_of_consistent_graphs");
+    for round in 0..rounds(200) {
+        let graph = grown(&mut random, &ALL_IDS[round % 4], round % 60, 2048);
+        assert_eq!(same_check(&image(&graph)), 0);
+    }
+}
+
+#[test]
+fn on_damaged_images() {
+    let mut random = Random::for_test("check_of_damaged_images");
+    let mut met = [0; 13];
+    for round in 0..rounds(400) {
+        let whole = image(&grown(&mut random, &ALL_IDS[round % 4], 30, 2048));
+        for _ in 0..6 {
+            let number = same_check(&damaged(&mut random, &whole));
+            met[usize::from(number as u16)] += 1;
+        }
+        assert_eq!(same_check(&image(&marked(&mut random, &FEW))) as u16 % 12, 0);
+    }
+    assert!([0, 3, 12].iter().all(|number| met[*number] > 5), "{met:?}");
+}
+
+#[test]
+fn on_changed_contents() {
+    let mut random = Random::for_test("check_of_changed_contents");
+    let whole = image(&grown(&mut random, &MANY, 40, 2048));
+    for changed in each_contents_byte_changed(&whole) {
+        same_check(&changed);
+    }
+}
+
+#[test]
+fn on_every_image_length() {
+    let mut random = Random::for_test("check_of_every_image_length");
+    let whole = image(&filled(&mut random, 300));
+    for length in 0..whole.len() {
+        assert_eq!(same_check(&whole[..length]), 12);
+    }
+    assert_eq!(same_check(&whole), 0);
+}
+
+/// More facts than a table has words give 11, whether or not a rule is broken; one byte off gives 12.
+#[test]
+fn on_full_and_overlong_images() {
+    let mut random = Random::for_test("check_of_full_images");
+    for (facts, answer) in [(2047, 0), (2048, 0), (2049, 11)] {
+        let graph = filled(&mut random, facts);
+        assert_eq!(same_check(&image(&graph)), answer);
+        let last = graph.facts().last().expect("the graph is full");
+        assert_eq!(same_check(&image(&graph.without(class(0)))) as u16, 3);
+        same_check(&image(&graph.without(last)));
+    }
+    let whole = image(&overlong());
+    assert_eq!(same_check(&whole), 11);
+    assert_eq!(same_check(&whole[1..]), 12);
+    assert_eq!(same_check(&whole[..whole.len() - 1]), 12);
+}

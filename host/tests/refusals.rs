@@ -1,0 +1,110 @@
+//! What a refusal tells beside its number: the bytes that an output needs, the rule that a graph breaks.
+
+mod generator;
+mod independent;
+
+use generator::graphs::{broken, image};
+use generator::tickets::{records, ALL_IDS};
+use generator::{rounds, Random};
+use independent::rules::{first_broken, place_of};
+use vimelosa_host::{
+    apply_list, apply_ticket, check_image, Graph, Range, Refusal, Rule, Ticket, LONGEST_IMAGE,
+};
+
+#[test]
+fn a_short_output_is_told_how_many_bytes_are_needed() {
+    let mut random = Random::for_test("a_short_output");
+    for round in 0..rounds(40) {
+        let list = records(&mut random, &ALL_IDS[round % 4], 30);
+        let tickets: Vec<Ticket> = list.chunks(5).map(|bytes| bytes.try_into().unwrap()).collect();
+        let mut graph = Graph::fresh();
+        assert_eq!(graph.apply_all(&tickets).len(), 30);
+        let needed = graph.image().len();
+        let (mut answers, mut output) = ([99; 30], vec![99; random.below(needed)]);
+        let refused = Refusal::ShortOutput { needed };
+        let nothing_new = Ticket::insert_class(0).bytes();
+        assert_eq!(apply_ticket(graph.image(), &nothing_new, &mut output), Err(refused));
+        assert_eq!(apply_list(Graph::fresh().image(), &list, &mut answers, &mut output), Err(refused));
+        assert!(answers.iter().chain(&output).all(|byte| *byte == 99));
+        let mut enough = vec![0; needed];
+        let applied = apply_list(Graph::fresh().image(), &list, &mut answers, &mut enough).unwrap();
+        assert_eq!((applied.length, &enough[..]), (needed, graph.image()));
+    }
+}
+
+/// A list has an answer byte for each ticket, and its counts have 16 bits.
+#[test]
+fn a_list_needs_answers_that_can_be_counted() {
+    let fresh = Graph::fresh();
+    let mut output = [99; LONGEST_IMAGE];
+    for (tickets, bytes, answers) in [(65_535, 0, 65_535), (65_534, 3, 65_535), (0, 0, 0)] {
+        let list = vec![0; 5 * tickets + bytes];
+        let applied = apply_list(fresh.image(), &list, &mut vec![0; answers], &mut output).unwrap();
+        assert_eq!((applied.accepted, usize::from(applied.refused)), (0, answers));
+        assert_eq!(&output[..applied.length], fresh.image());
+    }
+    for (tickets, bytes, answers) in [(65_536, 0, 65_536), (65_535, 1, 70_000), (2, 0, 1), (0, 1, 0)] {
+        let (list, mut told) = (vec![0; 5 * tickets + bytes], vec![99; answers]);
+        assert_eq!(apply_list(fresh.image(), &list, &mut told, &mut []), Err(Refusal::FewAnswers));
+        assert!(told.iter().all(|byte| *byte == 99));
+    }
+}
+
+/// Every call that reads the image names the first rule that its graph breaks.
+#[test]
+fn an_inconsistent_image_is_told_its_rule() {
+    let mut random = Random::for_test("an_inconsistent_image");
+    let mut told = Vec::new();
+    for round in 0..rounds(400) {
+        let graph = broken(&mut random, &ALL_IDS[round % 4]);
+        let image = image(&graph);
+        let rule = first_broken(&graph).map(|rule| Rule::try_from(place_of(rule) as u16).unwrap());
+        let expected = rule.map_or(Ok(()), |rule| Err(Refusal::Inconsistent { rule }));
+        assert_eq!(check_image(&image), expected);
+        assert_eq!(Graph::load(&image).map(|_| ()), expected);
+        let mut output = [0; LONGEST_IMAGE];
+        let nothing_new = Ticket::insert_class(0).bytes();
+        assert_eq!(apply_ticket(&image, &nothing_new, &mut output).map(|_| ()), expected);
+        assert_eq!(apply_list(&image, &[], &mut [], &mut output).map(|_| ()), expected);
+        told.extend(rule);
+    }
+    told.sort_unstable();
+    told.dedup();
+    assert!(told.len() > 10, "{told:?}");
+}
+
+#[test]
+fn tickets_that_name_something_by_id_1_are_refused() {
+    let tickets = [
+        Ticket::insert_class(1),
+        Ticket::insert_property(1, 2, Range::Literal),
+        Ticket::insert_property(5, 1, Range::Literal),
+        Ticket::insert_individual(1),
+        Ticket::insert_literal(1),
+        Ticket::insert_subclass(1, 2),
+        Ticket::insert_subclass(2, 1),
+        Ticket::insert_subproperty(1, 5),
+        Ticket::insert_subproperty(5, 1),
+        Ticket::insert_member(1, 2),
+        Ticket::insert_member(4, 1),
+        Ticket::insert_value(1, 4, 5),
+        Ticket::insert_value(4, 1, 5),
+        Ticket::insert_value(4, 6, 1),
+        Ticket::delete_class(1),
+        Ticket::delete_property(1),
+        Ticket::delete_individual(1),
+        Ticket::delete_literal(1),
+        Ticket::delete_subclass(1, 2),
+        Ticket::delete_subclass(2, 1),
+        Ticket::delete_subproperty(1, 5),
+        Ticket::delete_subproperty(5, 1),
+        Ticket::delete_member(1, 2),
+        Ticket::delete_member(4, 1),
+        Ticket::delete_value(1, 4, 5),
+        Ticket::delete_value(4, 1, 5),
+        Ticket::delete_value(4, 6, 1),
+    ];
+    for ticket in tickets {
+        assert_eq!(Graph::fresh().apply(ticket), Err(Refusal::BadIds), "{ticket:?}");
+    }
+}
