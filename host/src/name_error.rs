@@ -5,7 +5,8 @@ use std::fmt;
 
 /// What a name is.
 const NAMES: &str =
-    "A name has 1 to 255 bytes, not digits alone, no white space, control or invisible characters, no # at the start.";
+    "A name has 1 to 255 bytes, not digits alone, no white space, control or invisible characters, no # at \
+     the start.";
 
 /// Why a name is not taken. More reasons may follow, so a `match` on it has an arm for the others.
 #[derive(Clone, PartialEq, Eq, Hash, Debug)]

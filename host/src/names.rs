@@ -13,9 +13,9 @@ const GIVEN: [(u8, &str); 2] = [(RESOURCE, words::RESOURCE), (MARK, words::LITER
 const LONGEST_NAME: usize = 255;
 
 /// Names for ids: an id has at most one name, and no two ids have the same. Id 0 is always `Resource` and
-/// id 1 `Literal`. A name has 1 to 255 bytes, no white space, control or invisible characters; it is not digits
-/// alone, which would be an id, and does not start with `#`, as a remark in the file does. `Pump` and `pump`
-/// are two names.
+/// id 1 `Literal`. A name has 1 to 255 bytes, no white space, control or invisible characters; it is not
+/// digits alone, which would be an id, and does not start with `#`, as a remark in the file does. `Pump` and
+/// `pump` are two names.
 ///
 /// ```
 /// use vimelosa_host::{Graph, Names, Ticket};

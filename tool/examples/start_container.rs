@@ -1,5 +1,6 @@
-//! The start call from a shell: a container is to poll a port. All consequences of all tickets are in the image
-//! already, so whoever polls the port is found by two look-ups, in whatever order the plant was entered.
+//! The start call from a shell: a container is to poll a port. All consequences of all tickets are in the
+//! image already, so whoever polls the port is found by two look-ups, in whatever order the plant was
+//! entered.
 //!
 //! `start_container IMAGE CONTAINER CLASS PROPERTY PORT` says who of the class has the port as value of the
 //! property; it starts the container only if no other has. The names stand in `IMAGE.names`.

@@ -82,10 +82,12 @@ module _ (table : List ℕ) (a : ℕ) (e : a ≡ layoutRefusal product table 0) 
     -- n rules are met before the first that is broken.
     module _ {n : ℕ} (m : MetFirst (graph (facts product table)) rulesInOrder n) where
       pub past-broken : n < length rulesInOrder → 3 ≡ tableRefusal product table 0
-      past-broken h = by-rules true (ap not (is-false {b = consistent? (facts product table)} (broken-inconsistent (facts product table) m h)))
+      past-broken h = by-rules true
+          (ap not (is-false {b = consistent? (facts product table)} (broken-inconsistent (facts product table) m h)))
 
       pub past-met : length rulesInOrder ≤ n → 0 ≡ tableRefusal product table 0
-      past-met h = by-rules false (ap not (is-true {b = consistent? (facts product table)} (met-consistent (facts product table) m h)))
+      past-met h = by-rules false
+          (ap not (is-true {b = consistent? (facts product table)} (met-consistent (facts product table) m h)))
 
 pub refused-laid : (table : List ℕ) → 3 ≡ tableRefusal product table 0 → T (laidOut product 1 table)
     × (length table ≤ product .most)

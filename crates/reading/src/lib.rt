@@ -1,8 +1,8 @@
 // An image, read into a lent table.
 //
 // The public call is `read`, which crate `image` passes on. It has no `requires`: it says, for all inputs,
-// what it answers and every word afterwards. `store_words` serves the crates above: the words of an image with
-// right contents, without the check. The crate assumes nothing.
+// what it answers and every word afterwards. `store_words` serves the crates above: the words of an image
+// with right contents, without the check. The crate assumes nothing.
 ghost use Rattle.reading.specs.ReadPromise.{ReadPromise};
 
 mod reader;

@@ -78,7 +78,8 @@ impl Folder {
         ran(self.command(words).output().unwrap())
     }
 
-    /// Runs a line of the shell in this folder; the tool is `vimelosa` there, and the examples have their names.
+    /// Runs a line of the shell in this folder; the tool is `vimelosa` there, and the examples have their
+    /// names.
     pub fn shell(&self, line: &str) -> Ran {
         let path = std::env::var("PATH").unwrap_or_default();
         let built = Path::new(TOOL).parent().unwrap().display();

@@ -1,5 +1,5 @@
--- `check_call::vimelosa_check`: each way through it. Refused with 3, the image's words are stored and their rules counted. Assumes
--- nothing.
+-- `check_call::vimelosa_check`: each way through it. Refused with 3, the image's words are stored and their rules counted.
+-- Assumes nothing.
 use mathlib.Core.Path.{sym, _∙_}
 use native.Mathlib.Omega.{arith}
 use borrow.Author.Needs.{needs}
