@@ -1,12 +1,11 @@
 -- The words that bytes give, in a table with zeros after them. Assumes nothing.
-use Prim.Native.Nat.{ℕ, zero, suc, _-_, _≤_, _<_}
+use Prim.Native.Nat.{ℕ, suc, _-_, _≤_, _<_}
 use mathlib.Core.Path.{_≡_, refl, sym, ap, _∙_}
 use mathlib.Core.Bool.{false, not, _&&_, _||_}
 use mathlib.Core.List.{List, [], _∷_, _++_, map}
 use native.Mathlib.Omega.{arith}
-use native.Mathlib.Nat.{sub-zero, suc-sub-suc}
 use lib.Dec.{ltb, leb}
-use lib.ListN.{length, take, drop, replicate}
+use lib.ListN.{length, replicate}
 use Rattle.rdfs.specs.Numbers.{product}
 use Rattle.rdfs.specs.Lists.{_∈_, here, there}
 use Rattle.rdfs.specs.Clashes.{consistent?}
@@ -21,17 +20,6 @@ use Rattle.table.proofs.LayoutWalks.{laid-some}
 use Rattle.contents.specs.ImageForm.{form}
 use Rattle.contents.specs.Reading.{wordsOf}
 use Rattle.contents.proofs.RoundTrip.{words-some, words-full}
-
--- Zeros.
-pub drop-zeros : (m n : ℕ) → drop n (replicate m 0) ≡ replicate {A = ℕ} (m - n) 0
-drop-zeros m zero = ap (λ k. replicate k 0) (sym (sub-zero m))
-drop-zeros zero (suc n) = let none : 0 - suc n ≡ 0 = omega arith in ap (λ k. replicate k 0) (sym none)
-drop-zeros (suc m) (suc n) = drop-zeros m n ∙ ap (λ k. replicate k 0) (sym (suc-sub-suc m n))
-
-pub take-zeros : (m n : ℕ) → n ≤ m → take n (replicate m 0) ≡ replicate {A = ℕ} n 0
-take-zeros m zero h = refl
-take-zeros zero (suc n) h = absurd (omega arith)
-take-zeros (suc m) (suc n) h = ap (λ l. 0 ∷ l) (take-zeros m n (omega arith))
 
 -- Words that are no zeros are laid out if they are with zeros after them, and only then.
 laid-before : (last : ℕ) (l : List ℕ) (m : ℕ) → ((x : ℕ) → x ∈ l → 0 < x) → laidOut product (suc last) (l ++ replicate m 0)

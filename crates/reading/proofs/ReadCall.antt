@@ -1,12 +1,11 @@
 -- The answers of reading, and the words that it leaves. Assumes nothing.
 use Prim.Native.Nat.{ℕ, _≤_, _<_}
-use mathlib.Core.Path.{_≡_, refl, sym, ap, subst, _∙_}
+use mathlib.Core.Path.{_≡_, refl, sym, ap, _∙_}
 use mathlib.Core.Bool.{Bool, true, false, cond}
-use mathlib.Core.Logic.{inr}
 use mathlib.Core.List.{List, _++_}
 use native.Mathlib.Omega.{arith}
-use native.Mathlib.Decide.{decLt, ℕ-discrete}
-use lib.Dec.{T, ltb}
+use native.Mathlib.Decide.{ℕ-discrete}
+use lib.Dec.{ltb}
 use lib.ListN.{length, drop, replicate}
 use borrow.Author.Tests.{eq-eqb, ne-eqb, lt-ltb, le-ltb, ltb-false}
 use Rattle.rdfs.specs.Numbers.{product}
@@ -15,14 +14,14 @@ use Rattle.rdfs.specs.Refusals.{orElse, badSize, inconsistent, tableRefusal}
 use Rattle.rdfs.proofs.words.Tables.{padded-length}
 use Rattle.rdfs.proofs.tickets.FirstTrue.{passed-link}
 use Rattle.table.proofs.TestAnswers.{is-false}
-use Rattle.table.proofs.Sizes.{tests-size}
+use Rattle.table.proofs.Zeros.{drop-zeros}
 use Rattle.contents.specs.ImageForm.{form}
 use Rattle.contents.specs.Reading.{wordsOf, malformed}
 use Rattle.reading.specs.Fitting.{Fitting}
 use Rattle.reading.specs.ReadPromise.{imageRefusal, readAnswer, readWords, ReadPromise}
 use Rattle.contents.proofs.InBytes.{AllBytes}
 use Rattle.contents.proofs.Product.{right-malformed}
-use Rattle.reading.proofs.Held.{drop-zeros, held-checked}
+use Rattle.reading.proofs.Held.{held-checked}
 
 -- Another refusal in the first place.
 else-is : (b : Bool) (n m r rest : ℕ) → orElse b n rest ≡ r → r ≡ n → (rest ≡ n → ⊥) → m ≡ orElse b m rest
@@ -36,12 +35,6 @@ else-not false n m r rest e h = sym e
 pub overfull-some : (b : Bool) (r : ℕ) → r ≡ orElse b 12 11 → r ≡ 0 → ⊥
 overfull-some true r e z = omega (arith, e, z)
 overfull-some false r e z = omega (arith, e, z)
-
-pub size-most : (t : List ℕ) → badSize product t ≡ false → length t ≤ product .most
-size-most t e = elim (decLt (product .most) (length t)) [
-  | yes h ↦ absurd (subst T e (tests-size product t .complete (inr h)))
-  | no h ↦ omega (arith, h)
-]
 
 -- The words that bytes give, and refusal 3 of them, or 0.
 abbrev words : List ℕ → List ℕ

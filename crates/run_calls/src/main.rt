@@ -1,5 +1,5 @@
-// The public calls but the host's, by a script from standard input, one command a line; for each a line is
-// printed.
+// The public calls but the host's and those on texts, by a script from standard input, one command a line;
+// for each a line is printed.
 //
 // There are a table of up to 2,049 words, none at first, and a copy of 2,049 words, zeros at first. A line is
 // a command's name and what belongs to it in hexadecimal, two small digits a byte, with blanks between at

@@ -1,12 +1,14 @@
 -- Refusal 1 by the length of a table. Assumes nothing.
-use Prim.Native.Nat.{ℕ, _<_}
-use mathlib.Core.Path.{_≡_}
+use Prim.Native.Nat.{ℕ, _≤_, _<_}
+use mathlib.Core.Path.{_≡_, subst}
+use mathlib.Core.Bool.{false}
 use mathlib.Core.Logic.{_⊎_, inl, inr, ⊎-elim}
 use mathlib.Core.List.{List}
 use native.Mathlib.Omega.{arith}
-use lib.Dec.{leb, ltb, leb→le, le→leb, ltb→lt, lt→ltb}
+use native.Mathlib.Decide.{decLt}
+use lib.Dec.{T, leb, ltb, leb→le, le→leb, ltb→lt, lt→ltb}
 use lib.ListN.{length}
-use Rattle.rdfs.specs.Numbers.{Numbers}
+use Rattle.rdfs.specs.Numbers.{Numbers, product}
 use Rattle.rdfs.specs.Refusals.{badSize}
 use Rattle.rdfs.proofs.lists.Tests.{Tests, tests-or, tests-as}
 
@@ -22,3 +24,10 @@ tests-size N t = tests-as
     }))
     (⊎-elim (λ h. inl (omega arith)) inr)
     (⊎-elim (λ h. inl (omega arith)) inr)
+
+-- A table that it does not refuse has no more than the most words.
+pub size-most : (t : List ℕ) → badSize product t ≡ false → length t ≤ product .most
+size-most t e = elim (decLt (product .most) (length t)) [
+  | yes h ↦ absurd (subst T e (tests-size product t .complete (inr h)))
+  | no h ↦ omega (arith, h)
+]

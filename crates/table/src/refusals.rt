@@ -1,12 +1,12 @@
 // The refusals, each by its number: the only place of these numbers in code. docs/REFUSALS.md says who can
-// cause each and which calls give it; the definition of the same name says when. 0 is no refusal; 15 to 20
+// cause each and which calls give it; the definition of the same name says when. 0 is no refusal; 16 to 20
 // are free.
 
 // 1: a table of no words or above the most.
 pub const BAD_SIZE: u8 = 1;
 // 2: a table not laid out.
 pub const BAD_LAYOUT: u8 = 2;
-// 3: a table, or an image's graph, not consistent.
+// 3: a table, or the graph of an image or of a text, not consistent.
 pub const INCONSISTENT: u8 = 3;
 // 4: a ticket's length.
 pub const BAD_LENGTH: u8 = 4;
@@ -22,11 +22,13 @@ pub const GUARDED: u8 = 8;
 pub const UNKNOWN_PROPERTY: u8 = 9;
 // 10: insertion where no consistent graph holds the table and the asked facts.
 pub const CLASHING: u8 = 10;
-// 11: the new graph, or an image's, has more facts than the table has words.
+// 11: the new graph, or that of an image or of a text, has more facts than the table has words.
 pub const TOO_MANY: u8 = 11;
 // 12: an image not of its form.
 pub const MALFORMED: u8 = 12;
-// 13: an output shorter than the image.
+// 13: an output shorter than the image or the text.
 pub const SHORT_OUTPUT: u8 = 13;
 // 14: fewer answer bytes than tickets.
 pub const FEW_ANSWERS: u8 = 14;
+// 15: a line of a text outside the profile of N-Triples.
+pub const OUTSIDE_PROFILE: u8 = 15;

@@ -2,7 +2,7 @@
 -- they are a table that is laid out, and the rules that the table meets are those of the image's graph. Assumes nothing.
 use Prim.Native.Nat.{ℕ, suc, _+_, _≤_}
 use mathlib.Core.Path.{_≡_, sym, ap, subst, _∙_}
-use mathlib.Core.Bool.{Bool, true, false, not}
+use mathlib.Core.Bool.{false}
 use mathlib.Core.List.{List, _++_}
 use native.Mathlib.Omega.{arith}
 use native.Mathlib.Numerals.{add-one}
@@ -15,6 +15,7 @@ use Rattle.rdfs.specs.Clashes.{consistent?}
 use Rattle.rdfs.specs.Refusals.{orElse, badSize, inconsistent}
 use Rattle.rdfs.proofs.words.Tables.{padded-length}
 use Rattle.table.specs.Counted.{factsOf}
+use Rattle.table.proofs.Zeros.{drop-zeros}
 use Rattle.contents.specs.ImageForm.{form}
 use Rattle.contents.specs.Reading.{wordsOf, malformed}
 use Rattle.contents.specs.WithinBytes.{HasContents}
@@ -22,10 +23,13 @@ use Rattle.contents.proofs.Product.{proper, legible, well-contents}
 use Rattle.contents.proofs.RoundTrip.{read-well}
 use Rattle.consistency.specs.Order.{rulesInOrder, MetFirst}
 use Rattle.reading.specs.ReadPromise.{readAnswer, readWords}
-use Rattle.reading.proofs.Held.{drop-zeros, held-facts, held-laid}
+use Rattle.reading.proofs.Held.{held-facts, held-laid}
 use Rattle.reading.proofs.ReadCall.{read-refused, read-judged}
-use Rattle.vimelosa.specs.Host.{packed, room}
-use Rattle.vimelosa.specs.HostCheck.{none, broken, HostCheckPromise}
+use Rattle.exchange.specs.ToText.{room}
+use Rattle.vimelosa.specs.Host.{packed}
+use Rattle.exchange.specs.PlaceTold.{none, broken}
+use Rattle.exchange.proofs.PlaceLaws.{third-breaks}
+use Rattle.vimelosa.specs.HostCheck.{HostCheckPromise}
 
 -- Accepted, or refused with another number.
 pub way-other : (image : List ℕ) (n r : ℕ) → n ≡ readAnswer room image → (n ≡ 3 → ⊥) → r ≡ packed n 0 0 0
@@ -45,11 +49,7 @@ module _ (image : List ℕ) (e : readAnswer room image ≡ 3) where
   refused-contents = record { form = legible; right = well-contents form proper image (judged .1) }
 
   pub refused-inconsistent : T (consistent? (facts product words)) → ⊥
-  refused-inconsistent = third (consistent? (facts product words)) (judged .3)
-    where
-      third : (b : Bool) → orElse (not b) 3 0 ≡ 3 → T b → ⊥
-      third true q t = omega (arith, q)
-      third false q t = t
+  refused-inconsistent = third-breaks (consistent? (facts product words)) (judged .3)
 
   -- The words that reading leaves are as they were.
   module _ (table : List ℕ) (h : table ≡ readWords room image) where

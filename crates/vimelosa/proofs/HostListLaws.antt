@@ -21,9 +21,9 @@ use Rattle.writing.proofs.Measuring.{image-small}
 use Rattle.writing.proofs.WriteCall.{table-writing}
 use Rattle.reading.specs.ReadPromise.{readAnswer, readWords}
 use Rattle.reading.proofs.ReadCall.{read-length}
-use Rattle.vimelosa.specs.Host.{room}
+use Rattle.exchange.specs.ToText.{room}
 use Rattle.vimelosa.specs.HostList.{ticketCount, ran, imageLeft, answerRoom, readRefusal, hostListRefusal, HasRoom}
-use Rattle.vimelosa.proofs.HostWays.{refused-keeps, passed-leaves, read-table}
+use Rattle.exchange.proofs.Between.{refused-keeps, passed-leaves, read-table}
 
 -- A test that refuses is false if it did not.
 unrefused : (b : Bool) (n : ℕ) → (n ≡ 0 → ⊥) → orElse b n 0 ≡ 0 → b ≡ false

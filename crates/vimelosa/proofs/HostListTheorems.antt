@@ -17,7 +17,8 @@ use Rattle.writing.specs.WritePromise.{tableImage}
 use Rattle.reading.specs.ReadPromise.{readAnswer, readWords, ReadPromise}
 use Rattle.reading.proofs.ReadCall.{read-length}
 use Rattle.image.proofs.ImageTheorems.{read-writes}
-use Rattle.vimelosa.specs.Host.{sixteenBits, packed, answerIn, addedIn, removedIn, lengthIn, refusedElse, room}
+use Rattle.exchange.specs.ToText.{room}
+use Rattle.vimelosa.specs.Host.{sixteenBits, packed, answerIn, addedIn, removedIn, lengthIn, refusedElse}
 use Rattle.vimelosa.specs.HostList.{
   acceptedIn,
   refusedIn,
@@ -34,7 +35,7 @@ use Rattle.vimelosa.specs.HostList.{
   HostListPromise,
 }
 use Rattle.vimelosa.specs.HostCalls.{HostCall, CalledEach, imageAfterAll}
-use Rattle.vimelosa.proofs.HostWays.{passed-leaves, read-table}
+use Rattle.exchange.proofs.Between.{passed-leaves, read-table}
 use Rattle.vimelosa.proofs.HostListLaws.{ran-numbers, ran-length, ran-table, not-refused, was-read, has-answers}
 use Rattle.vimelosa.proofs.Saved.{
   else-small,

@@ -17,7 +17,8 @@ use Rattle.writing.specs.WritePromise.{tableImage, WritePromise}
 use Rattle.writing.specs.declared.Written.{Written}
 use Rattle.writing.proofs.WriteCall.{write-done}
 use Rattle.reading.specs.ReadPromise.{readAnswer, readWords}
-use Rattle.vimelosa.specs.Host.{sixteenBits, packed, room}
+use Rattle.exchange.specs.ToText.{room}
+use Rattle.vimelosa.specs.Host.{sixteenBits, packed}
 use Rattle.vimelosa.specs.HostList.{
   ticketCount,
   ran,
@@ -32,7 +33,8 @@ use Rattle.vimelosa.specs.HostList.{
   HostListPromise,
   HasRoom,
 }
-use Rattle.vimelosa.proofs.HostWays.{refused-keeps, passed-leaves, refused-is, passed-is, read-table}
+use Rattle.exchange.proofs.Between.{refused-keeps, passed-leaves, read-table}
+use Rattle.vimelosa.proofs.HostWays.{refused-is, passed-is}
 use Rattle.vimelosa.proofs.HostListLaws.{ran-numbers, ran-table, was-read, has-answers}
 
 -- The call is refused: all bytes are as they were.

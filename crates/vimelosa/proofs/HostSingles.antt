@@ -1,11 +1,9 @@
 -- Single host calls, one for each ticket, each by its contract, do as the register. Assumes nothing.
 use Prim.Native.Nat.{ℕ, _≤_}
 use mathlib.Core.Path.{_≡_, refl, sym, ap, subst, _∙_}
-use mathlib.Core.Bool.{cond}
 use mathlib.Core.List.{List, [], _∷_, map}
 use native.Mathlib.Omega.{arith}
 use native.Mathlib.Decide.{ℕ-discrete}
-use lib.Dec.{eqb}
 use lib.ListN.{length, take}
 use Rattle.rdfs.specs.Numbers.{product}
 use Rattle.rdfs.specs.Register.{Answer, step, runWith, Table}
@@ -16,9 +14,11 @@ use Rattle.writing.specs.WritePromise.{tableImage, writeAnswer, writeLength}
 use Rattle.writing.proofs.Measuring.{image-small}
 use Rattle.writing.proofs.WriteCall.{table-writing, write-done}
 use Rattle.reading.specs.ReadPromise.{readAnswer, readWords}
-use Rattle.vimelosa.specs.Host.{packed, answerIn, lengthIn, refusedElse, room, applied, hostAnswer}
+use Rattle.exchange.specs.ToText.{room}
+use Rattle.vimelosa.specs.Host.{packed, answerIn, lengthIn, refusedElse, applied, hostAnswer}
 use Rattle.vimelosa.specs.HostCalls.{HostCall, Called, imageAfter, CalledEach, imageAfterAll}
-use Rattle.vimelosa.proofs.HostWays.{refused-keeps, passed-leaves, refused-is, passed-is, applied-table}
+use Rattle.exchange.proofs.Between.{refused-keeps, passed-leaves}
+use Rattle.vimelosa.proofs.HostWays.{refused-is, passed-is, applied-table}
 use Rattle.vimelosa.proofs.Saved.{packed-answer, reads-back, number-small, accepted, saved-image}
 
 -- One call on the image of a consistent table of 2,048 words.

@@ -12,7 +12,8 @@ use Rattle.contents.specs.ImageForm.{form}
 use Rattle.contents.specs.Reading.{wordsOf}
 use Rattle.writing.specs.WritePromise.{tableImage, writeAnswer}
 use Rattle.reading.specs.ReadPromise.{imageRefusal, readAnswer, ReadPromise}
-use Rattle.vimelosa.specs.Host.{answerIn, addedIn, removedIn, lengthIn, room, applied, hostAnswer, HostPromise}
+use Rattle.exchange.specs.ToText.{room}
+use Rattle.vimelosa.specs.Host.{answerIn, addedIn, removedIn, lengthIn, applied, hostAnswer, HostPromise}
 use Rattle.vimelosa.proofs.HostWays.{applied-table}
 use Rattle.vimelosa.proofs.Saved.{reads-back, accepted, left-length, saved-image, refused}
 

@@ -4,25 +4,17 @@ use mathlib.Core.Path.{_≡_, refl, sym, ap, subst, _∙_}
 use mathlib.Core.Bool.{cond}
 use mathlib.Core.List.{List}
 use lib.Dec.{eqb}
-use borrow.Author.Tests.{eq-eqb, ne-eqb}
 use Rattle.rdfs.specs.Numbers.{product}
 use Rattle.rdfs.specs.Register.{Answer, step, Table}
-use Rattle.rdfs.proofs.tickets.Steps.{checked-table}
 use Rattle.rdfs.proofs.register.AfterEach.{after}
 use Rattle.rdfs.proofs.Theorems.{product-sound}
 use Rattle.writing.specs.WritePromise.{writeAnswer, writeLength, writeBytes}
 use Rattle.reading.specs.ReadPromise.{readAnswer, readWords}
-use Rattle.image.proofs.ImageTheorems.{read-writes}
 use Rattle.ticket.specs.Answered.{Answered}
 use Rattle.ticket.specs.declared.answer.Applied.{Applied}
-use Rattle.vimelosa.specs.Host.{packed, refusedElse, room, applied, hostAnswer, hostOutput, HostPromise}
-
--- By a refusal, what was there is kept; for 0 the new is left.
-pub refused-keeps : {A : Type 0} (n : ℕ) (new old : A) → (n ≡ 0 → ⊥) → cond (eqb n 0) new old ≡ old
-refused-keeps n new old h = ap (λ b. cond b new old) (ne-eqb n 0 h)
-
-pub passed-leaves : {A : Type 0} (n : ℕ) (new old : A) → n ≡ 0 → cond (eqb n 0) new old ≡ new
-passed-leaves n new old e = ap (λ b. cond b new old) (eq-eqb n 0 e)
+use Rattle.exchange.specs.ToText.{room}
+use Rattle.exchange.proofs.Between.{refused-keeps, passed-leaves, read-table}
+use Rattle.vimelosa.specs.Host.{packed, refusedElse, applied, hostAnswer, hostOutput, HostPromise}
 
 -- A refusal is the answer, and for 0 what comes after.
 pub refused-is : (n rest : ℕ) → (n ≡ 0 → ⊥) → refusedElse n rest ≡ packed n 0 0 0
@@ -31,13 +23,7 @@ refused-is n rest = refused-keeps n rest (packed n 0 0 0)
 pub passed-is : (n rest : ℕ) → n ≡ 0 → refusedElse n rest ≡ rest
 passed-is n rest = passed-leaves n rest (packed n 0 0 0)
 
--- Words that were read are a consistent table.
-pub read-table : (image : List ℕ) (n : ℕ) {w : List ℕ} → n ≡ readAnswer room image → n ≡ 0 → w ≡ readWords room image
-    → Table product w
-read-table image n e z h =
-    subst (Table product) (sym h) (checked-table product (readWords room image) (sym (read-writes room image (sym z ∙ e) .1)))
-
--- So are those that a ticket leaves.
+-- Words that a ticket leaves are a consistent table, as those that were read are.
 pub applied-table : (image ticket : List ℕ) → readAnswer room image ≡ 0 → Table product (applied image ticket .table)
 unfolding applied
 applied-table image ticket e =

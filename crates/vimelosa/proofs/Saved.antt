@@ -26,8 +26,10 @@ use Rattle.reading.specs.ReadPromise.{readAnswer, readWords, ReadPromise}
 use Rattle.reading.proofs.ReadCall.{read-length}
 use Rattle.image.proofs.ImageTheorems.{image-reads-back, table-reads-back}
 use Rattle.vimelosa.specs.Host.{sixteenBits, packed, answerIn, addedIn, removedIn, lengthIn}
-use Rattle.vimelosa.specs.Host.{refusedElse, room, applied, hostAnswer, hostOutput}
-use Rattle.vimelosa.proofs.HostWays.{refused-is, passed-is, passed-leaves, read-table}
+use Rattle.exchange.specs.ToText.{room}
+use Rattle.vimelosa.specs.Host.{refusedElse, applied, hostAnswer, hostOutput}
+use Rattle.exchange.proofs.Between.{passed-leaves, read-table}
+use Rattle.vimelosa.proofs.HostWays.{refused-is, passed-is}
 
 -- A refusal fits its field.
 pub else-small : (b : Bool) (n rest : ℕ) → n < sixteenBits → rest < sixteenBits → orElse b n rest < sixteenBits
@@ -40,6 +42,11 @@ read-small image =
     let l : List ℕ = wordsOf product form image in
     else-small (malformed product form image) 12 _ (lit< tt) (else-small (ltb (product .most) (length l)) 11 _ (lit< tt)
     (else-small (inconsistent product l) 3 0 (lit< tt) (lit< tt)))
+
+-- So does a refusal of a table, if what comes after has.
+pub table-small : (t : List ℕ) (rest : ℕ) → rest < sixteenBits → tableRefusal product t rest < sixteenBits
+table-small t rest h = else-small (badSize product t) 1 _ (lit< tt) (else-small (badLayout product t) 2 _ (lit< tt)
+    (else-small (inconsistent product t) 3 rest (lit< tt) h))
 
 -- An answer of 0 is not a refusal's.
 pub accepted-passes : (n rest : ℕ) → n < sixteenBits → answerIn (refusedElse n rest) ≡ 0 → (n ≡ 0) × (refusedElse n rest ≡ rest)
@@ -90,11 +97,6 @@ module _ (image ticket output : List ℕ) where
     pub number : s .number ≡ 0
     pub write : writeAnswer (s .table) output ≡ 0
     pub answer : hostAnswer image ticket output ≡ packed 0 (s .added) (s .removed) (writeLength (s .table) output)
-
-  -- 1 to 3 of a table, then others.
-  table-small : (t : List ℕ) (rest : ℕ) → rest < sixteenBits → tableRefusal product t rest < sixteenBits
-  table-small t rest h = else-small (badSize product t) 1 _ (lit< tt) (else-small (badLayout product t) 2 _ (lit< tt)
-      (else-small (inconsistent product t) 3 rest (lit< tt) h))
 
   pub number-small : s .number < sixteenBits
   unfolding applied

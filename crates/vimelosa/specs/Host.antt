@@ -4,11 +4,11 @@ use mathlib.Core.Path.{_≡_}
 use mathlib.Core.Bool.{cond}
 use mathlib.Core.List.{List}
 use lib.Dec.{eqb}
-use lib.ListN.{replicate}
 use Rattle.rdfs.specs.Numbers.{product}
 use Rattle.rdfs.specs.Register.{Answer, step}
 use Rattle.writing.specs.WritePromise.{writeAnswer, writeLength, writeBytes}
 use Rattle.reading.specs.ReadPromise.{readAnswer, readWords}
+use Rattle.exchange.specs.ToText.{room}
 
 -- The values of a number of 16 bits.
 abbrev pub sixteenBits : ℕ
@@ -35,10 +35,6 @@ lengthIn number = number / sixteenBits / sixteenBits / sixteenBits
 -- A refusal with the other three 0; for 0, what comes after.
 abbrev pub refusedElse : ℕ → ℕ → ℕ
 refusedElse refusal rest = cond (eqb refusal 0) rest (packed refusal 0 0 0)
-
--- The words that the image is read into. Reading does not look at them.
-abbrev pub room : List ℕ
-room = replicate (product .most) 0
 
 -- The ticket on the words that were read.
 unfoldable pub applied : List ℕ → List ℕ → Answer

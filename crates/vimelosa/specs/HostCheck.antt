@@ -1,5 +1,5 @@
 -- What the host's check answers of an image, for all bytes: the answer of reading, and the rule for 3.
-use Prim.Native.Nat.{ℕ, suc}
+use Prim.Native.Nat.{ℕ}
 use mathlib.Core.Path.{_≡_}
 use mathlib.Core.List.{List}
 use Rattle.rdfs.specs.Numbers.{product}
@@ -7,20 +7,14 @@ use Rattle.rdfs.specs.Facts.{Graph, graph}
 use Rattle.rdfs.specs.Words.{facts}
 use Rattle.contents.specs.ImageForm.{form}
 use Rattle.contents.specs.Reading.{wordsOf}
-use Rattle.consistency.specs.Order.{rulesInOrder, MetFirst}
 use Rattle.reading.specs.ReadPromise.{readAnswer}
-use Rattle.vimelosa.specs.Host.{packed, addedIn, room}
+use Rattle.exchange.specs.ToText.{room}
+use Rattle.exchange.specs.PlaceTold.{PlaceTold}
+use Rattle.vimelosa.specs.Host.{packed, addedIn}
 
 -- The graph of the facts that an image holds.
 abbrev pub imageGraph : List ℕ → Graph
 imageGraph image = graph (facts product (wordsOf product form image))
-
--- The place, counted from 1 in the paper's order, of the first rule that the image's graph breaks, if reading
--- refuses with 3; else 0.
-pub data BrokenPlace (image : List ℕ) : ℕ → Type 0 where
-  none : (readAnswer room image ≡ 3 → ⊥) → BrokenPlace image 0
-  broken : {met : ℕ} → readAnswer room image ≡ 3 → MetFirst (imageGraph image) rulesInOrder met
-      → BrokenPlace image (suc met)
 
 -- The place in the call's number: its second 16 bits.
 abbrev pub placeIn : ℕ → ℕ
@@ -30,4 +24,4 @@ placeIn number = addedIn number
 pub record HostCheckPromise (image : List ℕ) (answer : ℕ) : Type 0 where
   pub place : ℕ
   pub number : answer ≡ packed (readAnswer room image) place 0 0
-  pub rule : BrokenPlace image place
+  pub rule : PlaceTold (readAnswer room image) (imageGraph image) place

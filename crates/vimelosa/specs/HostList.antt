@@ -12,7 +12,8 @@ use Rattle.rdfs.specs.Register.{Done, cut, register}
 use Rattle.list_form.specs.Listing.{fewAnswers, acceptedOf, refusedOf, written}
 use Rattle.writing.specs.WritePromise.{tableImage}
 use Rattle.reading.specs.ReadPromise.{readAnswer, readWords}
-use Rattle.vimelosa.specs.Host.{sixteenBits, packed, addedIn, removedIn, refusedElse, room}
+use Rattle.exchange.specs.ToText.{room}
+use Rattle.vimelosa.specs.Host.{sixteenBits, packed, addedIn, removedIn, refusedElse}
 
 -- The tickets accepted and the tickets refused in the number that the call answers: they stand where a single
 -- call has the facts added and the facts removed.

@@ -1,9 +1,10 @@
 // The host's calls across the C interface: read an image, run one ticket or a list on it, write the image of
-// what is left; say of an image what is wrong with it.
+// what is left; say of an image what is wrong with it; turn an image into a text, and a text into an image.
 //
-// The public calls are `vimelosa_apply`, `vimelosa_apply_list` and `vimelosa_check`. They have no `requires`:
-// each says, for all bytes, the number that it answers and every byte that it leaves, through the definitions
-// of reading, of the tickets and of writing. The crate assumes nothing.
+// The public calls are `vimelosa_apply`, `vimelosa_apply_list`, `vimelosa_check`, `vimelosa_write_triples`
+// and `vimelosa_read_triples`. They have no `requires`: each says, for all bytes, the number that it answers
+// and every byte that it leaves, through the definitions of reading, of the tickets and of writing. The crate
+// assumes nothing.
 //
 // The table that an image is read into is the call's own: 8 KB of stack, beside those of the steps. It is
 // checked once, by reading. A list with a short output is read twice, each time into a table that is gone
@@ -11,9 +12,12 @@
 mod check_call;
 mod list_call;
 mod number;
+mod triples_call;
 
 pub use check_call::vimelosa_check;
 pub use list_call::vimelosa_apply_list;
+pub use triples_call::vimelosa_read_triples;
+pub use triples_call::vimelosa_write_triples;
 ghost use Rattle.vimelosa.specs.Host.{HostPromise};
 use image::read;
 use image::write_checked;

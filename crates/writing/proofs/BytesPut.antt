@@ -9,7 +9,7 @@ use lib.ListN.{length, getD, set, take, drop}
 use lib.Seq.{drop-drop, getD-drop, take-all, paste, paste-zero, paste-suc, length-paste}
 use Rattle.contents.specs.ImageForm.{inBytes}
 use Rattle.contents.proofs.InBytes.{inBytes-length}
-use Rattle.writing.specs.Writing.{over}
+use Rattle.table.specs.Overlay.{over}
 
 -- The first byte, then the others.
 bytes-next : (n x : ℕ) → x < 256 ^ suc n → inBytes (suc n) x ≡ (x % 256) ∷ inBytes n (x / 256)

@@ -7,8 +7,8 @@ use lib.ListN.{length, set, length-append}
 use Rattle.contents.specs.ImageForm.{Form, factSize, entrySize, entryAt, inBytes}
 use Rattle.contents.specs.Image.{entry}
 use Rattle.contents.proofs.InBytes.{inBytes-length}
-use Rattle.writing.specs.Writing.{over}
-use Rattle.writing.proofs.Overlaid.{two-stores, over-more}
+use Rattle.table.specs.Overlay.{over}
+use Rattle.table.proofs.Overlaid.{two-stores, over-more}
 
 module _ (F : Form) (out : List ℕ) (k start count : ℕ) (room : entryAt F k + entrySize F ≤ length out) where
   abbrev s : ℕ

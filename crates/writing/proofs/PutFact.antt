@@ -17,8 +17,9 @@ use Rattle.contents.specs.Image.{idBytes}
 use Rattle.contents.proofs.InBytes.{inBytes-length}
 use Rattle.contents.proofs.FactsRead.{IsKind, is-kind}
 use Rattle.contents.proofs.WordsRead.{idBytes-length}
-use Rattle.writing.specs.Writing.{over, NewFact}
-use Rattle.writing.proofs.Overlaid.{over-more}
+use Rattle.table.specs.Overlay.{over}
+use Rattle.writing.specs.Writing.{NewFact}
+use Rattle.table.proofs.Overlaid.{over-more}
 
 module _ (w : ℕ) (f : T (isFact product w)) where
   kind-bounds : (1 ≤ kindOf w) × (kindOf w ≤ kindCount)

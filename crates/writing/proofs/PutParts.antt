@@ -17,10 +17,11 @@ use Rattle.contents.proofs.ImageRead.{entry-length, entry-next, bodies-at}
 use Rattle.contents.proofs.Linking.{kinds-more, kinds-all}
 use Rattle.contents.proofs.RoundTrip.{filled-facts}
 use Rattle.writing.specs.KindEnds.{countBy, entriesBy, contentsBy}
-use Rattle.writing.specs.Writing.{Writing, over, Overlaid, Embodied}
+use Rattle.table.specs.Overlay.{over, Overlaid}
+use Rattle.writing.specs.Writing.{Writing, Embodied}
 use Rattle.writing.proofs.EndsLaws.{contents-long, Measured, measured-start, measured-more}
 use Rattle.writing.proofs.Measuring.{bodies-all, image-whole}
-use Rattle.writing.proofs.Overlaid.{
+use Rattle.table.proofs.Overlaid.{
   overlaid-length,
   overlaid-self,
   overlaid-trans,

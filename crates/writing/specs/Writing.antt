@@ -1,7 +1,7 @@
 -- What the steps of writing find and leave.
 use Prim.Native.Nat.{ℕ, _+_, _≤_, _<_}
 use mathlib.Core.Path.{_≡_}
-use mathlib.Core.List.{List, _++_}
+use mathlib.Core.List.{List}
 use lib.Dec.{T}
 use lib.ListN.{length, getD, take, drop}
 use Rattle.rdfs.specs.Numbers.{product, arity}
@@ -9,6 +9,7 @@ use Rattle.rdfs.specs.Lists.{concatMap}
 use Rattle.rdfs.specs.Words.{isFact, filled}
 use Rattle.table.specs.Parts.{kindOf}
 use Rattle.table.specs.Counted.{Counted}
+use Rattle.table.specs.Overlay.{Overlaid}
 use Rattle.contents.specs.ImageForm.{Form, fieldValues, firstBody}
 use Rattle.contents.specs.Legible.{Complete}
 use Rattle.contents.specs.Image.{idBytes, imageOf}
@@ -31,15 +32,6 @@ pub record Stretch (table : List ℕ) (i j ids : ℕ) : Type 0 where
   pub order : i ≤ j
   pub within : j ≤ length (filled table)
   pub alike : (k : ℕ) → i ≤ k → k < j → ids ≡ arity (kindOf (getD table k 0))
-
--- Some numbers in place of those that stood from place i on.
-abbrev pub over : List ℕ → ℕ → List ℕ → List ℕ
-over l i new = take i l ++ (new ++ drop (i + length new) l)
-
--- The first `at` bytes are the image's; the others are as they were.
-pub record Overlaid (image out₀ out : List ℕ) (at : ℕ) : Type 0 where
-  pub within : at ≤ length image
-  pub so-far : out ≡ take at image ++ drop at out₀
 
 -- The ids of the first i facts are stored, behind the contents.
 pub record Embodied (F : Form) (l out₀ out : List ℕ) (i at : ℕ) : Type 0 where

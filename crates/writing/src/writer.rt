@@ -7,6 +7,7 @@ ghost use Rattle.rdfs.specs.Numbers.{product, kindCount};
 ghost use Rattle.rdfs.specs.Words.{filled};
 ghost use Rattle.table.specs.Found.{below};
 ghost use Rattle.table.specs.Parts.{wordOf};
+ghost use Rattle.table.specs.Overlay.{over};
 ghost use Rattle.contents.specs.ImageForm.{byteValues, inBytes, entryAt, firstBody};
 ghost use Rattle.contents.specs.Legible.{formOf};
 ghost use Rattle.contents.specs.Image.{idBytes, entry, imageOf};
@@ -19,7 +20,6 @@ ghost use Rattle.writing.specs.Writing.{
   NewStretch,
   NewBodies,
   Embodied,
-  over,
 };
 use contents::BEFORE_FIELDS;
 use contents::BYTE;

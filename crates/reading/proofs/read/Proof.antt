@@ -7,11 +7,12 @@ use lib.Seq.{length-take-le}
 use borrow.Author.Tests.{not-true, not-false}
 use Rattle.rdfs.specs.Numbers.{product}
 use Rattle.table.proofs.TestAnswers.{decides-true, decides-false}
+use Rattle.table.proofs.Sizes.{size-most}
+use Rattle.table.proofs.Zeros.{take-zeros}
 use Rattle.contents.specs.ImageForm.{form}
 use Rattle.contents.specs.Reading.{malformed}
 use Rattle.contents.proofs.Product.{legible, wrong-malformed}
-use Rattle.reading.proofs.Held.{take-zeros}
-use Rattle.reading.proofs.ReadCall.{size-most, read-refused, read-small, read-malformed, overfull-some, read-overfull}
+use Rattle.reading.proofs.ReadCall.{read-refused, read-small, read-malformed, overfull-some, read-overfull}
 use borrow.Author.Needs.{needs}
 use Rattle.reading.proofs.read.Statement.{statement}
 use Rattle.reading.proofs.read.Tie as tie

@@ -1,6 +1,7 @@
 -- `vimelosa_apply`: each way through it, in the order of its steps. Assumes nothing.
 use mathlib.Core.Path.{sym, _∙_}
-use Rattle.vimelosa.proofs.HostWays.{read-table, left-table, way-unread, way-unapplied, way-unwritten, way-done}
+use Rattle.exchange.proofs.Between.{read-table}
+use Rattle.vimelosa.proofs.HostWays.{left-table, way-unread, way-unapplied, way-unwritten, way-done}
 use borrow.Author.Needs.{needs}
 use Rattle.vimelosa.proofs.vimelosa_apply.Statement.{statement}
 use Rattle.vimelosa.proofs.vimelosa_apply.Tie as tie

@@ -9,7 +9,7 @@ use Rattle.contents.specs.Legible.{formOf}
 use Rattle.writing.specs.Writing.{Embodied}
 use Rattle.writing.proofs.KindCount.{kind-first, kind-last}
 use Rattle.writing.proofs.Stretches.{kind-stretch}
-use Rattle.writing.proofs.Overlaid.{overlaid-length}
+use Rattle.table.proofs.Overlaid.{overlaid-length}
 use Rattle.writing.proofs.PutParts.{embodied-start, embodied-self, embodied-trans, embodied-all}
 use borrow.Author.Needs.{needs}
 use Rattle.writing.proofs.writer.put_bodies.Statement.{statement}

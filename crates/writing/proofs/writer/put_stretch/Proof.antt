@@ -10,7 +10,7 @@ use Rattle.table.proofs.Filled.{filled-within}
 use Rattle.rdfs.specs.Numbers.{product}
 use Rattle.contents.specs.Legible.{formOf}
 use Rattle.writing.specs.Writing.{Embodied}
-use Rattle.writing.proofs.Overlaid.{overlaid-length}
+use Rattle.table.proofs.Overlaid.{overlaid-length}
 use Rattle.writing.proofs.PutParts.{embodied-room, embodied-more}
 use Rattle.writing.proofs.writer.put_stretch.Statement.{statement}
 use Rattle.writing.proofs.writer.put_stretch.Tie as tie

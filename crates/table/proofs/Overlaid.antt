@@ -1,4 +1,4 @@
--- An image written over lent bytes, from its first byte on. Assumes nothing.
+-- A run written over a lent one, from its first number on. Assumes nothing.
 use Prim.Native.Nat.{ℕ, _+_, _-_, _≤_}
 use mathlib.Core.Path.{_≡_, refl, sym, ap, _∙_}
 use mathlib.Core.List.{List, [], _∷_, _++_, append-assoc}
@@ -6,7 +6,7 @@ use native.Mathlib.Omega.{arith}
 use native.Mathlib.Numerals.{add-one}
 use lib.ListN.{length, set, take, drop, length-append, length-drop}
 use lib.Seq.{take-at, drop-at, drop-drop, drop-append-add, take-add, take-length, length-take-le, sets-eq}
-use Rattle.writing.specs.Writing.{over, Overlaid}
+use Rattle.table.specs.Overlay.{over, Overlaid}
 
 module _ {image out₀ out : List ℕ} {at : ℕ} (o : Overlaid image out₀ out at) where
   firsts : length (take at image) ≡ at

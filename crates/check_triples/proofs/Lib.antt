@@ -1,0 +1,2 @@
+-- AnswerSmall: for put_answer.
+mod AnswerSmall

@@ -1,0 +1,4 @@
+pub mod ToText
+pub mod PlaceTold
+pub mod ToImage
+pub mod Printed
