@@ -1,13 +1,31 @@
 /* Vimelosa: one RDF/S graph of at most 2,048 facts, held in an image, changed by tickets.
  *
- * Every call is given an image, which is a graph in bytes; the calls that change the graph write a new image
- * to an output. A ticket is five bytes that ask to insert or to delete: operation, kind, and the ids a, b, c,
+ * An image is a graph in bytes. The calls that change the graph are given an image and write a new one to an
+ * output. A ticket is five bytes that ask to insert or to delete: operation, kind, and the ids a, b, c,
  * unused ones 0. Ids are chosen by the caller, but 0 is Resource, the class of everything, and 1 is the mark
- * Literal, which is a range and names nothing else.
+ * Literal, which is a range and names nothing else. A text is a graph in lines of N-Triples.
  *
  * Image. Byte 0 is 1 and byte 1 is 10. Then each kind from 1 to 10 has an entry of six bytes: the kind; the
  * bytes per fact; the place in the image where its facts start, and how many there are, both 16 bits with the
  * low byte first. The facts follow from byte 62 on, by kind, ascending, each as its ids.
+ *
+ * Text. A text is lines of N-Triples, in a profile: three terms with a blank after each, then a full stop and
+ * a newline (byte 10), and nothing else anywhere. With a, b, c for the ids of a fact, the terms are
+ *   kind 1      a  rdf:type            rdfs:Class
+ *   kind 2      a  rdf:type            rdf:Property
+ *   kind 5      a  rdfs:subClassOf     b
+ *   kind 6      a  rdfs:subPropertyOf  b
+ *   kind 7      a  rdfs:domain         b
+ *   kind 8      a  rdfs:range          b
+ *   kind 9      a  rdf:type            b
+ *   kind 10     a  c                   b
+ * where id n, from 2 to 255, is <urn:id:n>, id 0 is rdfs:Resource, and 1 as a range is rdfs:Literal. If b of
+ * kind 10 is a literal n, it is "n". Numbers are decimal, without leading zeros. rdf: and rdfs: are short for
+ * http://www.w3.org/1999/02/22-rdf-syntax-ns# and http://www.w3.org/2000/01/rdf-schema# here; in the text
+ * each IRI is written out, between < and >. Kinds 3 and 4 have no lines: an individual is told by its line of
+ * kind 9 with id 0, a literal by its lines of kind 10, so that a literal in none of these is not in the text.
+ * Lines are written in the order of the image's facts. They are read in any order, and repeated ones count
+ * once.
  *
  * C. C99 or later, or C++11 or later. The archive libvimelosa.a needs memcpy and memset, and nothing else.
  *
@@ -23,7 +41,7 @@
  * Results. A call returns its answer in the lowest 16 bits: 0, or the number of a refusal. A call refuses
  * with the first refusal, in its own order, whose condition holds, and only then. A refused call leaves every
  * byte of its buffers as it was, and the other parts of its result are 0, but for the rule's place that
- * vimelosa_check tells with 3.
+ * vimelosa_check and vimelosa_read_triples tell with 3.
  */
 #ifndef VIMELOSA_H
 #define VIMELOSA_H
@@ -40,6 +58,13 @@ extern "C" {
 
 /* A graph has at most so many facts. */
 #define VIMELOSA_MOST_FACTS 2048
+
+/* No line of a text that a call reads or writes has more bytes, its newline counted. */
+#define VIMELOSA_LONGEST_LINE 154
+
+/* No text that a call writes has more bytes, since a fact has at most one line: an output of so many, or of
+ * VIMELOSA_LONGEST_LINE for each fact, is never too short. A text that is read may be longer by repeats. */
+#define VIMELOSA_LONGEST_TEXT 315392
 
 /* A ticket has so many bytes. */
 #define VIMELOSA_TICKET 5
@@ -88,7 +113,7 @@ enum vimelosa_refusal {
     VIMELOSA_BAD_SIZE = 1,
     /* A table whose facts are not ascending, stand twice or are not followed by zeros alone. */
     VIMELOSA_BAD_LAYOUT = 2,
-    /* The image's graph breaks a rule. */
+    /* The image's or the text's graph breaks a rule. */
     VIMELOSA_INCONSISTENT = 3,
     /* The ticket's length is not 5. */
     VIMELOSA_BAD_LENGTH = 4,
@@ -104,14 +129,17 @@ enum vimelosa_refusal {
     VIMELOSA_UNKNOWN_PROPERTY = 9,
     /* No consistent graph holds the graph and what the ticket inserts. */
     VIMELOSA_CLASHING = 10,
-    /* The new graph, or in reading the image's, has more than 2,048 facts. */
+    /* The new graph, or in reading the image's or the text's, has more than 2,048 facts. */
     VIMELOSA_TOO_MANY = 11,
     /* The image is malformed. */
     VIMELOSA_MALFORMED = 12,
-    /* The output is shorter than the new image. */
+    /* The output is shorter than the new image or the text. */
     VIMELOSA_SHORT_OUTPUT = 13,
     /* There are fewer answer bytes than tickets, or more than 65,535 tickets. */
-    VIMELOSA_FEW_ANSWERS = 14
+    VIMELOSA_FEW_ANSWERS = 14,
+    /* A line of the text is outside the profile: no fact has such a line, or it is of kind 10 and has b as
+     * <urn:id:n> where another line has "n". */
+    VIMELOSA_OUTSIDE_PROFILE = 15
 };
 
 /* Applies one ticket to the image's graph and writes the new image to the output.
@@ -147,6 +175,26 @@ uint64_t vimelosa_apply_list(const uint8_t *image, size_t image_length,
  * The result has two parts: vimelosa_answer and vimelosa_rule_place, which is 0 unless the answer is 3. */
 uint64_t vimelosa_check(const uint8_t *image, size_t image_length);
 
+/* Writes the text of the image's graph to the output.
+ *
+ * Refusals, in this order: 12, 11, 3 of the image; 13 of the output.
+ *
+ * The result has two parts: vimelosa_answer and vimelosa_text_length, the text's length. With 3 it does not
+ * tell the rule, as vimelosa_check does. Bytes of the output after the text are left as they were. */
+uint64_t vimelosa_write_triples(const uint8_t *image, size_t image_length,
+                                uint8_t *output, size_t output_length);
+
+/* Reads a text and writes the image of its graph to the output. What follows from a line by a rule is not
+ * added, but for individuals and literals: the text has to tell the whole graph.
+ *
+ * Refusals, in this order: 15, 11, 3 of the text; 13 of the output. 15 is given for any line of the text,
+ * however many facts stand before it.
+ *
+ * The result has three parts: vimelosa_answer, vimelosa_rule_place, which is 0 unless the answer is 3, and
+ * vimelosa_length, the image's length. Bytes of the output after the image are left as they were. */
+uint64_t vimelosa_read_triples(const uint8_t *text, size_t text_length,
+                               uint8_t *output, size_t output_length);
+
 /* The answer of any call: 0, or the number of a refusal. */
 static inline uint16_t vimelosa_answer(uint64_t result) {
     return (uint16_t)(result & 0xffff);
@@ -172,13 +220,19 @@ static inline uint16_t vimelosa_refused(uint64_t result) {
     return (uint16_t)(result >> 32 & 0xffff);
 }
 
-/* Of vimelosa_apply and vimelosa_apply_list: how many bytes the new image has. */
+/* Of vimelosa_apply, vimelosa_apply_list and vimelosa_read_triples: how many bytes the new image has. */
 static inline size_t vimelosa_length(uint64_t result) {
     return (size_t)(result >> 48);
 }
 
-/* Of vimelosa_check, where the answer is 3: the place, counted from 1, of the first rule that the graph
- * breaks. Rules 4 to 27 have places 1 to 24, H1 to H4 places 25 to 28. For other answers it is 0. */
+/* Of vimelosa_write_triples: how many bytes the text has. */
+static inline size_t vimelosa_text_length(uint64_t result) {
+    return (size_t)(result >> 16);
+}
+
+/* Of vimelosa_check and vimelosa_read_triples, where the answer is 3: the place, counted from 1, of the first
+ * rule that the graph breaks. Rules 4 to 27 have places 1 to 24, H1 to H4 places 25 to 28. For other answers
+ * it is 0. */
 static inline uint16_t vimelosa_rule_place(uint64_t result) {
     return (uint16_t)(result >> 16 & 0xffff);
 }

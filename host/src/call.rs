@@ -133,7 +133,11 @@ pub fn check_image(image: &[u8]) -> Result<(), Refusal> {
 }
 
 /// Nothing for answer 0, the refusal for another; what the number does not tell is asked for.
-fn outcome(number: u16, rule: impl FnOnce() -> Rule, needed: impl FnOnce() -> usize) -> Result<(), Refusal> {
+pub(crate) fn outcome(
+    number: u16,
+    rule: impl FnOnce() -> Rule,
+    needed: impl FnOnce() -> usize,
+) -> Result<(), Refusal> {
     match (number, Refusal::of_number(number)) {
         (0, _) => Ok(()),
         (INCONSISTENT, _) => Err(Refusal::Inconsistent { rule: rule() }),
@@ -144,22 +148,22 @@ fn outcome(number: u16, rule: impl FnOnce() -> Rule, needed: impl FnOnce() -> us
 }
 
 /// The first rule that the graph of an image breaks, where reading it answers 3.
-fn broken_rule(image: &[u8]) -> Rule {
+pub(crate) fn broken_rule(image: &[u8]) -> Rule {
     let [_, place, ..] = parts_of(check_raw(image));
     rule_at(place)
 }
 
-fn rule_at(place: u16) -> Rule {
+pub(crate) fn rule_at(place: u16) -> Rule {
     Rule::try_from(place).unwrap_or_else(|_| unreachable!("a rule has a place from 1 to 28, not {place}"))
 }
 
 /// The length of the image that a call refused with 13 would write, by the same call with room for any.
-fn needed_by(again: impl FnOnce(&mut [u8]) -> u64) -> usize {
+pub(crate) fn needed_by(again: impl FnOnce(&mut [u8]) -> u64) -> usize {
     let [_, _, _, length] = parts_of(again(&mut [0; LONGEST_IMAGE]));
     usize::from(length)
 }
 
 /// Four numbers of 16 bits, lowest first.
-fn parts_of(number: u64) -> [u16; 4] {
+pub(crate) fn parts_of(number: u64) -> [u16; 4] {
     [0, 16, 32, 48].map(|bits| (number >> bits) as u16)
 }

@@ -42,6 +42,11 @@ impl Graph {
         Ok(Graph { image: image.to_vec() })
     }
 
+    /// The graph of an image that a call has written.
+    pub(crate) fn of_written(image: &[u8]) -> Graph {
+        Graph { image: image.to_vec() }
+    }
+
     /// Runs one ticket. The call reads the whole image and checks it again, which takes longer than the
     /// ticket: several tickets are faster by [`Graph::apply_all`].
     ///

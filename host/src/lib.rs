@@ -1,5 +1,5 @@
 //! The Rust host of Vimelosa's equipment graph: one RDF/S graph, kept as an image and changed by tickets. The
-//! work is done by a proved library behind three C functions; this crate gives it the types of the field.
+//! work is done by a proved library behind five C functions; this crate gives it the types of the field.
 //!
 //! - [`Graph`] holds an image. [`Graph::apply`] runs one [`Ticket`] and answers the [`Change`] or the
 //!   [`Refusal`], [`Graph::apply_all`] runs a list of them.
@@ -7,8 +7,10 @@
 //!   image. Look-ups such as [`Graph::members_of`] and [`Graph::holders_of`] read what they say of an id;
 //!   [`Graph::diff`] compares two graphs.
 //! - [`Names`] keeps names for ids in a file, and writes and reads facts and tickets with them.
-//! - [`apply_ticket`], [`apply_list`] and [`check_image`] are the calls over bytes that the caller lends;
-//!   [`call_raw`], [`call_list_raw`] and [`check_raw`] give their numbers as they come.
+//! - [`Graph::to_triples`] and [`Graph::from_triples`] write and read a graph as a text of N-Triples.
+//! - [`apply_ticket`], [`apply_list`], [`check_image`], [`write_triples`] and [`read_triples`] are the calls
+//!   over bytes that the caller lends; [`call_raw`], [`call_list_raw`], [`check_raw`], [`write_triples_raw`]
+//!   and [`read_triples_raw`] give their numbers as they come.
 //!
 //! The proved library has no state and takes no memory but the stack, of which 64 KB are enough for its
 //! deepest calls known. Calls may run on any threads at once, and none panics.
@@ -62,13 +64,14 @@ mod rows;
 mod rule;
 mod show;
 mod ticket;
+mod triples;
 mod words;
 
 pub use call::{apply_list, apply_ticket, check_image, Applied, AppliedList, Change};
 pub use diff::Diff;
 pub use fact::{Fact, RESOURCE};
 pub use facts::{AllFacts, Facts};
-pub use ffi::{call_list_raw, call_raw, check_raw};
+pub use ffi::{call_list_raw, call_raw, check_raw, read_triples_raw, write_triples_raw};
 pub use graph::Graph;
 pub use image::{LONGEST_IMAGE, MOST_FACTS};
 pub use kind::Kind;
@@ -81,3 +84,4 @@ pub use refusal::Refusal;
 pub use rule::Rule;
 pub use show::Named;
 pub use ticket::{Asked, Ticket};
+pub use triples::{read_triples, write_triples, LONGEST_LINE, LONGEST_TEXT};

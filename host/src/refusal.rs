@@ -7,7 +7,7 @@ use std::error::Error;
 use std::fmt;
 
 /// Why a call refused, each with document 01's number and words. A refusal leaves all lent memory as it was.
-/// More will follow, 15 to 20, so a `match` on it has an arm for the others.
+/// More will follow, 16 to 20, so a `match` on it has an arm for the others.
 #[derive(Clone, Copy, PartialEq, Eq, Hash, Debug)]
 #[non_exhaustive]
 pub enum Refusal {
@@ -15,7 +15,7 @@ pub enum Refusal {
     BadSize,
     /// 2: table not laid out: the facts ascending, none twice, then zeros to the end.
     BadLayout,
-    /// 3: table not consistent; in reading, the image's graph.
+    /// 3: table not consistent; in reading, the image's or the text's graph.
     Inconsistent {
         /// The first rule that it breaks, in the paper's order.
         rule: Rule,
@@ -35,17 +35,19 @@ pub enum Refusal {
     UnknownProperty,
     /// 10: inserting where no consistent graph holds table and asked facts.
     Clashing,
-    /// 11: the new graph (in reading, the image's) has more facts than the table has words.
+    /// 11: the new graph (in reading, the image's or the text's) has more facts than the table has words.
     TooMany,
     /// 12: image malformed.
     Malformed,
-    /// 13: output shorter than the image.
+    /// 13: output shorter than the image or the text.
     ShortOutput {
-        /// The image's length: an output of that many bytes is long enough.
+        /// The length of the image or the text: an output of that many bytes is long enough.
         needed: usize,
     },
     /// 14: fewer answer bytes than tickets, or more tickets than a list call counts.
     FewAnswers,
+    /// 15: a line of the text outside the profile of N-Triples.
+    OutsideProfile,
 }
 
 /// The number of [`Refusal::Inconsistent`], whose rule it does not tell.
@@ -55,7 +57,7 @@ pub(crate) const INCONSISTENT: u16 = 3;
 pub(crate) const SHORT_OUTPUT: u16 = 13;
 
 /// The others, which their number tells.
-const TOLD_BY_NUMBER: [Refusal; 12] = [
+const TOLD_BY_NUMBER: [Refusal; 13] = [
     Refusal::BadSize,
     Refusal::BadLayout,
     Refusal::BadLength,
@@ -68,6 +70,7 @@ const TOLD_BY_NUMBER: [Refusal; 12] = [
     Refusal::TooMany,
     Refusal::Malformed,
     Refusal::FewAnswers,
+    Refusal::OutsideProfile,
 ];
 
 impl Refusal {
@@ -98,6 +101,7 @@ impl Refusal {
             Refusal::Malformed => 12,
             Refusal::ShortOutput { .. } => SHORT_OUTPUT,
             Refusal::FewAnswers => 14,
+            Refusal::OutsideProfile => 15,
         }
     }
 
@@ -121,8 +125,9 @@ impl Refusal {
             Refusal::Clashing => "The ticket clashes with what the graph holds.",
             Refusal::TooMany => "The graph would have more facts than the table has room for.",
             Refusal::Malformed => "The image is malformed.",
-            Refusal::ShortOutput { .. } => "The output is too short for the image.",
+            Refusal::ShortOutput { .. } => "The output is too short.",
             Refusal::FewAnswers => "There are fewer answer bytes than tickets, or more than 65,535 tickets.",
+            Refusal::OutsideProfile => "A line of the text is outside the profile.",
         }
     }
 }
@@ -137,7 +142,7 @@ impl Refusal {
 /// assert_eq!(no_resource.to_string(), "refusal 3: The graph breaks a rule. H1: Resource is a class.");
 ///
 /// let short = Refusal::ShortOutput { needed: 84 };
-/// assert_eq!(short.to_string(), "refusal 13: The output is too short for the image. It needs 84 bytes.");
+/// assert_eq!(short.to_string(), "refusal 13: The output is too short. It needs 84 bytes.");
 /// ```
 impl fmt::Display for Refusal {
     fn fmt(&self, f: &mut fmt::Formatter<'_>) -> fmt::Result {

@@ -6,7 +6,7 @@ use std::ffi::OsStr;
 use std::fs;
 use std::path::{Path, PathBuf};
 use std::process::{Command, Stdio};
-use vimelosa_host::{Graph, Kind, LONGEST_IMAGE, MOST_FACTS};
+use vimelosa_host::{Graph, Kind, LONGEST_IMAGE, LONGEST_LINE, LONGEST_TEXT, MOST_FACTS};
 
 const STRICT: [&str; 4] = ["-Wall", "-Wextra", "-Werror", "-pedantic"];
 
@@ -36,6 +36,18 @@ no answers: answer 14, accepted 0, refused 0, length 0, rest as lent 1
 no tickets, no output: answer 13, accepted 0, refused 0, length 0, rest as lent 1
 no tickets: answer 0, accepted 0, refused 0, length 63, rest as lent 1
 the image is the old one: 1
+write triples: answer 0, length 145, rest as lent 1
+the text is one line: 1
+write triples to a short output: answer 13, length 0, rest as lent 1
+write triples of a bad image: answer 3, length 0, rest as lent 1
+write triples of no image: answer 12, length 0, rest as lent 1
+read triples: answer 0, rule place 0, length 66, rest as lent 1
+bodies: 0 2 2 0
+read triples to a short output: answer 13, rule place 0, length 0, rest as lent 1
+read triples without a last newline: answer 15, rule place 0, length 0, rest as lent 1
+the text is outside the profile: 1
+read triples without Resource: answer 3, rule place 4, length 0, rest as lent 1
+read no triples: answer 3, rule place 25, length 0, rest as lent 1
 ";
 
 /// A file of the host's folder.
@@ -177,7 +189,7 @@ fn refusals_of_document() -> Vec<(String, u16)> {
 fn the_refusals_of_the_header_are_those_of_the_document() {
     let refusals = numbers_of_header("refusal");
     let numbers: Vec<u16> = refusals.iter().map(|(_, number)| *number).collect();
-    assert_eq!(numbers, (1..=14).collect::<Vec<u16>>());
+    assert_eq!(numbers, (1..=15).collect::<Vec<u16>>());
     assert_eq!(refusals, refusals_of_document());
 }
 
@@ -197,7 +209,14 @@ fn the_fresh_image_of_the_header_is_that_of_rust() {
 #[test]
 fn the_sizes_of_the_header_are_those_of_rust() {
     let header = text_of("include/vimelosa.h");
-    for (name, size) in [("LONGEST_IMAGE", LONGEST_IMAGE), ("MOST_FACTS", MOST_FACTS), ("TICKET", 5)] {
+    let sizes = [
+        ("LONGEST_IMAGE", LONGEST_IMAGE),
+        ("MOST_FACTS", MOST_FACTS),
+        ("LONGEST_LINE", LONGEST_LINE),
+        ("LONGEST_TEXT", LONGEST_TEXT),
+        ("TICKET", 5),
+    ];
+    for (name, size) in sizes {
         let line = format!("#define VIMELOSA_{name} {size}");
         assert!(header.lines().any(|other| other == line), "{line}");
     }

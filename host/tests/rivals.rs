@@ -10,13 +10,15 @@ mod rivals;
 
 use generator::graphs::image;
 use generator::tickets::{list, ticket, Ids, ALL_IDS, FEW, MANY, PLENTY};
+use generator::triples::{crowded_texts, longest_text, some_text};
 use generator::{calls, graphs, rounds, Random};
 use independent::graph::Graph;
 use independent::{host, programs, table};
 use rivals::bit_rows::BitRows;
 use rivals::sorted::Sorted;
+use rivals::triples::{read_triples, write_triples};
 use rivals::{host_call, list_call, program, Rival, TICKET_LENGTH};
-use vimelosa_host::LONGEST_IMAGE;
+use vimelosa_host::{LONGEST_IMAGE, LONGEST_TEXT};
 
 /// The number that all three give, and the output that all three leave.
 fn same_call(image: &[u8], ticket: &[u8], output_length: usize) -> (u64, Vec<u8>) {
@@ -46,6 +48,34 @@ fn same_list_call(image: &[u8], list: &[u8], answers_length: usize, output_lengt
 /// The same with an answer byte more than there are tickets.
 fn same_answered_list(image: &[u8], list: &[u8], output_length: usize) -> (u64, Vec<u8>) {
     same_list_call(image, list, list.chunks(TICKET_LENGTH).len() + 1, output_length)
+}
+
+/// The number that all three give for the text of an image, and the output that all three leave.
+fn same_writing(image: &[u8], output_length: usize) -> (u64, Vec<u8>) {
+    let mut expected = vec![0x5a; output_length];
+    let number = host::host_write_triples(image, &mut expected);
+    for call in [write_triples::<Sorted>, write_triples::<BitRows>] {
+        let mut output = vec![0x5a; output_length];
+        assert_eq!(call(image, &mut output), number, "{image:02x?}");
+        assert!(output == expected, "{image:02x?}");
+    }
+    (number, expected)
+}
+
+/// The number that all three give for the image of a text, and the output that all three leave. Which rule is
+/// broken only the independent one tells.
+fn same_reading(text: &[u8], output_length: usize) -> (u64, Vec<u8>) {
+    let mut expected = vec![0x5a; output_length];
+    let number = match host::host_read_triples(text, &mut expected) {
+        refused if refused as u16 == 3 => 3,
+        number => number,
+    };
+    for call in [read_triples::<Sorted>, read_triples::<BitRows>] {
+        let mut output = vec![0x5a; output_length];
+        assert_eq!(call(text, &mut output), number, "{:?}", String::from_utf8_lossy(text));
+        assert_eq!(output, expected, "{:?}", String::from_utf8_lossy(text));
+    }
+    (number, expected)
 }
 
 fn same_check(words: &[u32]) -> u8 {
@@ -150,6 +180,39 @@ fn list_calls_of_most_tickets() {
         let (answer, _) = same_answered_list(&fresh, &list, LONGEST_IMAGE);
         assert_eq!((answer as u16, answer >> 48), ([0, 14][more], number));
     }
+}
+
+/// Texts written into outputs that suffice, exactly or more, and into one that is a byte too short.
+#[test]
+fn texts_written() {
+    let mut random = Random::for_test("rivals_texts_written");
+    for round in 0..rounds(200) {
+        let whole = image(&graphs::grown(&mut random, &ALL_IDS[round % 4], round % 60, 300));
+        let (number, _) = same_writing(&whole, LONGEST_TEXT);
+        let length = (number >> 16) as usize;
+        assert_eq!(same_writing(&whole, length).0, number);
+        assert_eq!(same_writing(&whole, length - 1).0, 13);
+    }
+    let longest = image(&longest_text());
+    assert_eq!(same_writing(&longest, LONGEST_TEXT).0, 189_256 << 16);
+    calls::on_damaged_images(&mut random, rounds(50), |image, _, _| same_writing(image, LONGEST_TEXT));
+    calls::on_changed_contents(&mut random, |image, _, _| same_writing(image, LONGEST_TEXT));
+}
+
+#[test]
+fn texts_read() {
+    let mut random = Random::for_test("rivals_texts_read");
+    let mut met = [0; 16];
+    for round in 0..rounds(2000) {
+        let text = some_text(&mut random, &ALL_IDS[round % 4]);
+        let (number, _) = same_reading(&text, random.pick(&[0, 62, 100, LONGEST_IMAGE, LONGEST_IMAGE]));
+        met[usize::from(number as u16)] += 1;
+    }
+    for (text, answer) in crowded_texts(&mut random) {
+        assert_eq!(same_reading(text.as_bytes(), LONGEST_IMAGE).0 as u8, answer);
+    }
+    assert!([0, 3, 13, 15].iter().all(|answer| met[*answer] > 50), "{met:?}");
+    assert_eq!(same_reading(b"", LONGEST_IMAGE).0, 3);
 }
 
 /// Graphs that break a rule or two, or none: both outcomes are met often.

@@ -1,10 +1,11 @@
-//! The calls across the C interface on a thread with a small stack: the tickets whose side effects nest
-//! deepest, singly and in a list. A side effect is put in with side effects of its own, so the depth is that
-//! of the longest way through a graph: a chain of links below the new link, then a chain above it, where each
-//! step goes to the nearest id first.
+//! The calls across the C interface on a thread with a small stack: texts of full tables, and the tickets
+//! whose side effects nest deepest, singly and in a list. A side effect is put in with side effects of its
+//! own, so the depth is that of the longest way through a graph: a chain of links below the new link, then a
+//! chain above it, where each step goes to the nearest id first.
 
 use std::thread;
-use vimelosa_host::{call_list_raw, call_raw, check_raw, Graph, Range, Ticket, LONGEST_IMAGE, RESOURCE};
+use vimelosa_host::{call_list_raw, call_raw, check_raw, read_triples_raw, write_triples_raw};
+use vimelosa_host::{Graph, Range, Ticket, LONGEST_IMAGE, LONGEST_TEXT, RESOURCE};
 
 /// The stack that a thread is to have. The deepest call known takes three quarters of it.
 const STACK: usize = 64 * 1024;
@@ -12,6 +13,7 @@ const STACK: usize = 64 * 1024;
 const FIRST: u8 = 20;
 const ACCEPTED: u64 = 0;
 const TOO_MANY: u64 = 11;
+const SHORT_OUTPUT: u64 = 13;
 
 /// Two chains with the link from the top of the lower to the bottom of the upper left out. Ids rise with the
 /// distance from that link, so that the nearest comes first.
@@ -147,4 +149,41 @@ fn class_chains_joined_by_a_property_link() {
     let ends = [(p, low), (q, high)].map(|(property, domain)| open_property(property, domain));
     run(&mut graph, [member].into_iter().chain(ends));
     call_on_small_stack(&graph, Ticket::insert_subproperty(p, q), TOO_MANY);
+}
+
+/// An output that is long enough begins with what is expected; one that is too short is refused with 13 and
+/// has its sevens.
+fn expect_written(answer: u64, output: &[u8], expected: &[u8]) {
+    if output.len() < expected.len() {
+        assert_eq!(answer & 0xffff, SHORT_OUTPUT);
+        assert!(output.iter().all(|&byte| byte == 7));
+    } else {
+        assert_eq!(answer & 0xffff, ACCEPTED);
+        assert!(output.starts_with(expected));
+    }
+}
+
+/// A text is written and read, its lines in any order, with outputs that are long enough and too short.
+#[test]
+fn texts_of_tables_that_are_nearly_full() {
+    for graph in [class_chains(&Chains::of_lengths(60, 3)), property_chains(&Chains::of_lengths(41, 41))] {
+        let text = graph.to_triples();
+        let backwards: String = text.split_inclusive('\n').rev().collect();
+        for length in [LONGEST_TEXT, text.len() - 1] {
+            let image = graph.image().to_vec();
+            let (answer, written, _) = on_small_stack(move || {
+                let mut output = vec![7; length];
+                (write_triples_raw(&image, &mut output), output, Vec::new())
+            });
+            expect_written(answer, &written, text.as_bytes());
+        }
+        for length in [LONGEST_IMAGE, graph.image().len() - 1] {
+            let text = backwards.clone().into_bytes();
+            let (answer, written, _) = on_small_stack(move || {
+                let mut output = vec![7; length];
+                (read_triples_raw(&text, &mut output), output, Vec::new())
+            });
+            expect_written(answer, &written, graph.image());
+        }
+    }
 }

@@ -1,15 +1,63 @@
-//! The outside vectors on the independent implementation: the W3C suites and the worked examples of the
-//! papers.
+//! The vectors on the independent implementation: the W3C suites, the worked examples of the papers, and
+//! texts of triples.
 
 mod independent;
 mod vector_files;
 
 use independent::programs::{print_answers, run_tickets};
-use vector_files::{database, paper_cases, suite_cases, PaperCase};
+use independent::table::MOST_WORDS;
+use independent::triples::{read_triples, write_triples};
+use vector_files::{
+    database, ntriples_files, paper_cases, suite_cases, triples_cases, PaperCase, TriplesCase,
+};
 
 #[test]
 fn suites_have_47_cases_and_papers_70() {
     assert_eq!((suite_cases().len(), paper_cases().len()), (47, 70));
+}
+
+#[test]
+fn triples_have_191_cases_and_the_suite_of_them_70_files() {
+    assert_eq!((triples_cases().len(), ntriples_files().len()), (191, 70));
+}
+
+/// The words of facts in a table of so many words.
+fn table(words: &[u32], length: usize) -> Vec<u32> {
+    let mut table = words.to_vec();
+    table.resize(length, 0);
+    table
+}
+
+#[test]
+fn triples_cases_give_their_answers() {
+    for case in triples_cases() {
+        match case {
+            TriplesCase::Read { name, text, lent, answer, words } => {
+                let mut found = vec![0xff; lent];
+                assert_eq!(read_triples(&text, &mut found), answer, "{name}");
+                let left = if answer == 0 { table(&words, lent) } else { vec![0xff; lent] };
+                assert_eq!(found, left, "{name}");
+            }
+            TriplesCase::Write { name, words, lent, answer, text } => {
+                let mut found = vec![0xff; lent];
+                let (number, length) = write_triples(&table(&words, MOST_WORDS), &mut found);
+                assert_eq!((number, length), (answer, text.len()), "{name}");
+                let (written, untouched) = found.split_at(length);
+                assert_eq!(written, text, "{name}");
+                assert!(untouched.iter().all(|byte| *byte == 0xff), "{name}");
+            }
+        }
+    }
+}
+
+#[test]
+fn ntriples_files_are_outside_the_profile_but_the_empty_one() {
+    for file in ntriples_files() {
+        let mut found = vec![0xff; MOST_WORDS];
+        assert_eq!(read_triples(&file.text, &mut found), file.answer, "{}", file.name);
+        assert!(found.iter().all(|word| *word == 0xff), "{}", file.name);
+        assert_eq!(file.answer, if file.text.is_empty() { 3 } else { 15 }, "{}", file.name);
+    }
 }
 
 #[test]

@@ -23,6 +23,8 @@ pub fn command() -> Command {
             check(),
             diff(),
             draw(),
+            export(),
+            import(),
             tickets(),
             stat(),
             Command::new("man").about("Print the man page, in roff").hide(true),
@@ -32,7 +34,7 @@ pub fn command() -> Command {
 fn new() -> Command {
     Command::new("new")
         .about("Make an image with a fresh graph: the class Resource and nothing else")
-        .arg(image("IMAGE", "The file to be made; it must not be there"))
+        .arg(positional("IMAGE", "The file to be made; it must not be there"))
 }
 
 fn apply() -> Command {
@@ -48,7 +50,7 @@ fn apply() -> Command {
             "vimelosa apply [OPTIONS] <IMAGE> <WORD>...\n       \
              vimelosa apply [OPTIONS] <IMAGE> --file <FILE>",
         )
-        .arg(image("IMAGE", "The image"))
+        .arg(positional("IMAGE", "The image"))
         .arg(words("The words of one ticket, e.g. insert subclass Pump Machine"))
         .arg(file("Read the tickets from a file, one a line; - is standard input"))
         .arg(flag("all-or-nothing", "Leave the files as they were if a ticket is refused"))
@@ -59,20 +61,20 @@ fn apply() -> Command {
 fn show() -> Command {
     Command::new("show")
         .about("Print the classes as a tree with their members, the properties, values and literals")
-        .args([image("IMAGE", "The image"), names()])
+        .args([positional("IMAGE", "The image"), names()])
 }
 
 fn facts() -> Command {
     Command::new("facts")
         .about("Print all facts in words, one a line")
-        .args([image("IMAGE", "The image"), ids(), names()])
+        .args([positional("IMAGE", "The image"), ids(), names()])
         .arg(option("kind", "KIND", "Print only the facts of one kind, e.g. member"))
 }
 
 fn check() -> Command {
     Command::new("check")
         .about("Say whether an image is well formed and consistent, and else which rule it breaks")
-        .arg(image("IMAGE", "The image"))
+        .arg(positional("IMAGE", "The image"))
 }
 
 fn diff() -> Command {
@@ -82,7 +84,7 @@ fn diff() -> Command {
             "Print the facts that only one of two images has: - those of A, + those of B. Facts are compared \
              by their ids; each is printed with the names of its own image.",
         )
-        .args([image("A", "An image"), image("B", "Another image"), ids(), names()])
+        .args([positional("A", "An image"), positional("B", "Another image"), ids(), names()])
         .arg(flag("exit-code", "End with status 1 if the facts differ"))
 }
 
@@ -94,10 +96,34 @@ fn draw() -> Command {
              subclasses stand below their classes and a property is an arrow from its domain to its range. \
              With more, subclasses stand to the right and a property is a line in the box of its domain.",
         )
-        .arg(image("IMAGE", "The image"))
-        .arg(path("output", "FILE", "Write to a file instead of standard output").short('o'))
+        .arg(positional("IMAGE", "The image"))
+        .arg(output())
         .arg(flag("dot", "Print the drawing's DOT text and do not call Graphviz"))
         .arg(names())
+}
+
+fn export() -> Command {
+    Command::new("export")
+        .about("Print the graph as a text of N-Triples")
+        .long_about(
+            "Print the graph as a text of N-Triples, a line for each fact but individuals and literals, \
+             which other lines tell. A literal that is in no value is left out; how many are is said on \
+             standard error. The text has ids, not names.",
+        )
+        .args([positional("IMAGE", "The image"), output()])
+}
+
+fn import() -> Command {
+    Command::new("import")
+        .about("Make an image with the graph of a text of N-Triples")
+        .long_about(
+            "Make an image with the graph of a text of N-Triples, as export prints it. The lines stand in \
+             any order, and repeated ones count once. What follows from a line is not added, but for \
+             individuals and literals. A text is refused whole; if a line is outside the profile \
+             (TRIPLES in the man page), its number is said.",
+        )
+        .arg(positional("TEXT", "The text; - is standard input"))
+        .arg(positional("IMAGE", "The file to be made; it must not be there"))
 }
 
 fn tickets() -> Command {
@@ -116,10 +142,10 @@ fn tickets() -> Command {
 fn stat() -> Command {
     Command::new("stat")
         .about("Print how many facts and ids the graph has, and what room is left")
-        .args([image("IMAGE", "The image"), names()])
+        .args([positional("IMAGE", "The image"), names()])
 }
 
-fn image(name: &'static str, help: &'static str) -> Arg {
+fn positional(name: &'static str, help: &'static str) -> Arg {
     Arg::new(name).value_name(name).help(help).required(true).value_parser(value_parser!(PathBuf))
 }
 
@@ -141,6 +167,10 @@ fn path(name: &'static str, value: &'static str, help: &'static str) -> Arg {
 
 fn file(help: &'static str) -> Arg {
     path("file", "FILE", help)
+}
+
+fn output() -> Arg {
+    path("output", "FILE", "Write to a file instead of standard output").short('o')
 }
 
 fn ids() -> Arg {

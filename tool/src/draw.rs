@@ -3,12 +3,10 @@
 use crate::args;
 use crate::dot::drawing;
 use crate::failure::{reason, Answer, Failure};
-use crate::files::{Image, NamesFile};
+use crate::files::{refuse_sources, Image, NamesFile};
 use crate::replace::Replacement;
 use clap::ArgMatches;
-use std::fs;
 use std::io::{self, ErrorKind, Write};
-use std::path::Path;
 use std::process::{Command, Output, Stdio};
 use std::thread;
 
@@ -21,22 +19,10 @@ pub fn run(matches: &ArgMatches) -> Result<Answer, Failure> {
     match args::optional_path(matches, "output") {
         None => Ok(Answer::of(drawn)),
         Some(output) => {
-            refuse_sources(output, [path, &names.path])?;
+            refuse_sources("drawing", output, &[path, &names.path])?;
             Replacement::write(output, &drawn)?.put_in_place()?;
             Ok(Answer::of(""))
         }
-    }
-}
-
-/// A drawing does not go over the files that it is made from.
-fn refuse_sources(output: &Path, sources: [&Path; 2]) -> Result<(), Failure> {
-    let is_output = |source: &&Path| match (fs::canonicalize(source), fs::canonicalize(output)) {
-        (Ok(source), Ok(output)) => source == output,
-        _ => false,
-    };
-    match sources.iter().any(is_output) {
-        true => Err(Failure::new("the drawing is made from this file", output.display(), "name another")),
-        false => Ok(()),
     }
 }
 

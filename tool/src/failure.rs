@@ -5,22 +5,27 @@ use std::{fmt, io};
 /// Exit status: done.
 pub const DONE: u8 = 0;
 
-/// Exit status: a ticket or an image was refused.
+/// Exit status: a ticket, an image or a text was refused.
 pub const REFUSED: u8 = 1;
 
 /// Exit status: the words of the command, or a file, cannot be used.
 pub const UNUSABLE: u8 = 2;
 
-/// What goes to standard output, and the exit status.
+/// What goes to standard output, a line for standard error, if there is one, and the exit status.
 #[derive(Debug)]
 pub struct Answer {
     pub output: Vec<u8>,
+    pub note: Option<String>,
     pub status: u8,
 }
 
 impl Answer {
     pub fn of(output: impl Into<Vec<u8>>) -> Answer {
-        Answer { output: output.into(), status: DONE }
+        Answer { output: output.into(), note: None, status: DONE }
+    }
+
+    pub fn with_note(self, note: Option<String>) -> Answer {
+        Answer { note, ..self }
     }
 
     pub fn with_status(self, status: u8) -> Answer {

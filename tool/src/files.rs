@@ -2,9 +2,10 @@
 
 use crate::args;
 use crate::failure::{reason, Failure, REFUSED};
+use crate::replace::Replacement;
 use clap::ArgMatches;
 use std::ffi::OsString;
-use std::fs::File;
+use std::fs::{self, File};
 use std::io::{self, ErrorKind, Read};
 use std::path::{Path, PathBuf};
 use vimelosa_host::{Graph, Names};
@@ -43,6 +44,39 @@ pub fn read_image(path: &Path) -> Result<Vec<u8>, Failure> {
         };
         Failure::new(format!("cannot read the image ({})", reason(&error)), path.display(), advice)
     })
+}
+
+/// A failure where a file is: a new image does not go over one.
+pub fn refuse_existing(path: &Path) -> Result<(), Failure> {
+    match path.exists() {
+        true => {
+            let advice = "name another, or remove the file first";
+            Err(Failure::new("the file is there already", path.display(), advice))
+        }
+        false => Ok(()),
+    }
+}
+
+/// Makes a new image.
+pub fn make_image(path: &Path, graph: &Graph) -> Result<(), Failure> {
+    let replacement = Replacement::write(path, graph.image())?;
+    replacement.expect_unchanged(None)?;
+    replacement.put_in_place()
+}
+
+/// An output does not go over the image or its names.
+pub fn refuse_sources(what: &str, output: &Path, sources: &[&Path]) -> Result<(), Failure> {
+    let is_output = |source: &&Path| match (fs::canonicalize(source), fs::canonicalize(output)) {
+        (Ok(source), Ok(output)) => source == output,
+        _ => false,
+    };
+    match sources.iter().any(is_output) {
+        true => {
+            let what = format!("the {what} would go over the image or its names");
+            Err(Failure::new(what, output.display(), "name another"))
+        }
+        false => Ok(()),
+    }
 }
 
 /// The names of a graph, and the file's text, if there is a file.
@@ -90,7 +124,7 @@ impl NamesFile {
 
     /// Reads a names file; where there is none, only the given names are known.
     fn read_any(path: &Path) -> Result<NamesFile, Failure> {
-        let text = match std::fs::read(path) {
+        let text = match fs::read(path) {
             Ok(bytes) => Some(text_of(bytes, path)?),
             Err(error) if error.kind() == ErrorKind::NotFound => None,
             Err(error) => {
@@ -108,7 +142,7 @@ impl NamesFile {
 }
 
 /// The names file of an image: `.names` after its own name.
-fn beside(image: &Path) -> PathBuf {
+pub fn beside(image: &Path) -> PathBuf {
     let mut path = OsString::from(image);
     path.push(".names");
     path.into()
@@ -116,17 +150,27 @@ fn beside(image: &Path) -> PathBuf {
 
 /// The bytes of a text file, or of standard input for `-`, as text.
 pub fn read_text(path: &Path) -> Result<String, Failure> {
+    text_of(read_input("tickets", path, u64::MAX)?, path)
+}
+
+/// The bytes of a file, or of standard input for `-`; at most so many.
+pub fn read_input(what: &str, path: &Path, most: u64) -> Result<Vec<u8>, Failure> {
     let mut bytes = Vec::new();
     let read = match path.to_str() {
-        Some("-") => io::stdin().lock().read_to_end(&mut bytes),
-        _ => File::open(path).and_then(|mut file| file.read_to_end(&mut bytes)),
+        Some("-") => io::stdin().lock().take(most).read_to_end(&mut bytes),
+        _ => File::open(path).and_then(|file| file.take(most).read_to_end(&mut bytes)),
     };
-    match read {
-        Ok(_) => text_of(bytes, path),
-        Err(error) => {
-            let what = format!("cannot read the tickets ({})", reason(&error));
-            Err(Failure::new(what, path.display(), "name a file that can be read, or - for standard input"))
-        }
+    read.map(|_| bytes).map_err(|error| {
+        let what = format!("cannot read the {what} ({})", reason(&error));
+        Failure::new(what, path.display(), "name a file that can be read, or - for standard input")
+    })
+}
+
+/// What a file is called in messages.
+pub fn input_name(path: &Path) -> String {
+    match path.to_str() {
+        Some("-") => "standard input".to_owned(),
+        _ => path.display().to_string(),
     }
 }
 

@@ -10,10 +10,12 @@ mod convert;
 mod diff;
 mod dot;
 mod draw;
+mod export;
 mod facts;
 mod failure;
 mod files;
 mod hierarchy;
+mod import;
 mod man;
 mod new;
 mod progress;
@@ -31,8 +33,7 @@ fn main() -> ExitCode {
     match run() {
         Ok(status) => ExitCode::from(status),
         Err(failure) => {
-            // All at once: other programs may write there too. Where it is closed the status alone tells.
-            let _ = io::stderr().write_all(format!("{failure}\n").as_bytes());
+            say(&failure.to_string());
             ExitCode::from(failure.status)
         }
     }
@@ -41,6 +42,9 @@ fn main() -> ExitCode {
 fn run() -> Result<u8, Failure> {
     let answer = answer()?;
     print(&answer.output)?;
+    if let Some(note) = answer.note {
+        say(&note);
+    }
     Ok(answer.status)
 }
 
@@ -58,11 +62,19 @@ fn answer() -> Result<Answer, Failure> {
         "check" => check::run(matches),
         "diff" => diff::run(matches),
         "draw" => draw::run(matches),
+        "export" => export::run(matches),
+        "import" => import::run(matches),
         "tickets" => convert::run(matches),
         "stat" => stat::run(matches),
         "man" => Ok(man::run()),
         other => unreachable!("clap knows no command {other}"),
     }
+}
+
+/// Writes a line to standard error, all at once: other programs may write there too. Where it is closed the
+/// status alone tells.
+fn say(line: &str) {
+    let _ = io::stderr().write_all(format!("{line}\n").as_bytes());
 }
 
 /// Writes to standard output. A reader who has seen enough and closed the pipe is no failure.

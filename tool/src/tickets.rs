@@ -2,7 +2,7 @@
 
 use crate::args;
 use crate::failure::Failure;
-use crate::files::{read_text, without_byte_order_mark};
+use crate::files::{input_name, read_text, without_byte_order_mark};
 use crate::stat::used_ids;
 use clap::ArgMatches;
 use std::collections::BTreeSet;
@@ -41,8 +41,7 @@ impl Source {
         let tickets = lines.filter(|(_, line)| !line.is_empty() && !line.starts_with('#'));
         let given =
             tickets.map(|(line, words)| Given { words: words.to_owned(), line: Some(line) }).collect();
-        let name = if path == Path::new("-") { "standard input".into() } else { path.display().to_string() };
-        Ok(Source { given, name })
+        Ok(Source { given, name: input_name(path) })
     }
 
     /// Where a ticket stands, for a message.

@@ -34,6 +34,10 @@ fn full_disk() {
     fails(&folder, 2, "File too large", || full("apply plant.img insert member M1 Pump"));
     fails(&folder, 2, "File too large", || full("new other.img"));
     fails(&folder, 2, "File too large", || full("draw plant.img --dot -o plant.dot"));
+    fails(&folder, 2, "File too large", || full("export plant.img -o plant.nt"));
+    assert_eq!(folder.run(&["export", "plant.img", "-o", "plant.nt"]).status, 0);
+    fails(&folder, 2, "File too large", || full("import plant.nt other.img"));
+    fails(&folder, 2, "File too large", || full("export plant.img -o plant.nt"));
 }
 
 /// The disk has room for the names, but not for the image after them: the names too stay as they were.
@@ -99,7 +103,7 @@ fn image_cut_off() {
     let whole = folder.read("plant.img");
     for length in [0, 1, 61, 62, 100, whole.len() - 1] {
         folder.write("plant.img", &whole[..length]);
-        for command in ["show", "facts", "stat", "draw"] {
+        for command in ["show", "facts", "stat", "draw", "export"] {
             fails(&folder, 1, "refusal 12", || folder.run(&[command, "plant.img"]));
         }
         fails(&folder, 1, "refusal 12", || folder.run(&new_member("Pump")));
@@ -120,9 +124,59 @@ fn endless_image() {
 #[test]
 fn full_standard_output() {
     let folder = Folder::with_plant();
-    for line in ["show plant.img", "facts plant.img", "check plant.img", "--help", "man"] {
+    for line in ["show plant.img", "facts plant.img", "check plant.img", "export plant.img", "--help", "man"]
+    {
         fails(&folder, 2, "standard output", || folder.shell(&format!("vimelosa {line} > /dev/full")));
     }
+}
+
+/// A text that was cut off in a line, or damaged in one, makes no image; the line is told.
+#[test]
+fn text_cut_off() {
+    let folder = Folder::with_plant();
+    let text = folder.run(&["export", "plant.img"]).stdout;
+    for (line, end) in text.match_indices('\n').map(|(end, _)| end).enumerate().step_by(9) {
+        folder.write("cut.nt", &text[..end]);
+        let says =
+            format!("refusal 15: A line of the text is outside the profile: line {} of cut.nt", line + 1);
+        fails(&folder, 1, &says, || folder.run(&["import", "cut.nt", "new.img"]));
+        let (before, after) = text.as_bytes().split_at(end);
+        folder.write("bytes.nt", [before, b"\xff", after].concat());
+        let says = format!("line {} of bytes.nt", line + 1);
+        fails(&folder, 1, &says, || folder.run(&["import", "bytes.nt", "new.img"]));
+    }
+}
+
+/// A text longer than any that is read, from a device that never ends.
+#[test]
+fn endless_text() {
+    let folder = Folder::new();
+    fails(&folder, 2, "more than 16,777,216 bytes", || folder.run(&["import", "/dev/zero", "new.img"]));
+}
+
+/// An image that is there, or that another program makes while the text comes, is not written over.
+#[test]
+fn import_over_a_file() {
+    let folder = Folder::with_plant();
+    assert_eq!(folder.run(&["export", "plant.img", "-o", "plant.nt"]).status, 0);
+    fails(&folder, 2, "there already", || folder.run(&["import", "plant.nt", "plant.img"]));
+    fails(&folder, 2, "there already", || folder.run(&["import", "plant.nt", "plant.nt"]));
+    fails(&folder, 2, "there already", || folder.run(&["import", "plant.nt", "."]));
+    let lines = [
+        "mkfifo pipe",
+        "vimelosa import pipe new.img &",
+        "exec 3> pipe",
+        "echo other > new.img",
+        "cat plant.nt >&3",
+        "exec 3>&-",
+        "wait $!",
+    ];
+    let ran = folder.shell(&lines.join("\n"));
+    assert_eq!(ran.status, 2, "{ran:?}");
+    assert!(ran.stderr.contains("the file is there already"), "{ran:?}");
+    assert_eq!(folder.text("new.img"), "other\n");
+    fs::remove_file(folder.join("pipe")).unwrap();
+    assert!(folder.files().keys().all(|path| !path.to_string_lossy().contains(".new-")));
 }
 
 /// Tickets that cannot be read: not even the first is run.
@@ -183,14 +237,19 @@ fn mode_and_links_stay() {
     fails(&folder, 2, "round.img", || folder.run(&["new", "round.img"]));
 }
 
-/// A drawing never takes the place of the image or of the names, by whatever path.
+/// A drawing never takes the place of the image or of the names, by whatever path, nor does a text that of
+/// the image.
 #[test]
-fn drawing_over_its_sources() {
+fn output_over_its_sources() {
     let folder = Folder::with_plant();
     symlink("plant.img", folder.join("link.svg")).unwrap();
     for output in ["plant.img", "./plant.img.names", "link.svg"] {
         let words = ["draw", "plant.img", "--dot", "-o", output];
-        fails(&folder, 2, "the drawing is made from this file", || folder.run(&words));
+        fails(&folder, 2, "the drawing would go over the image or its names", || folder.run(&words));
+    }
+    for output in ["./plant.img", "./plant.img.names", "link.svg"] {
+        let words = ["export", "plant.img", "-o", output];
+        fails(&folder, 2, "the text would go over the image or its names", || folder.run(&words));
     }
 }
 

@@ -18,7 +18,9 @@ fn page_is_what_the_tool_prints() {
 fn page_has_every_option() {
     let folder = Folder::new();
     let page = folder.run(&["man"]).stdout.replace("\\-", "-");
-    for command in ["new", "apply", "show", "facts", "check", "diff", "draw", "tickets", "stat"] {
+    let commands =
+        ["new", "apply", "show", "facts", "check", "diff", "draw", "export", "import", "tickets", "stat"];
+    for command in commands {
         assert!(page.contains(&format!("\n.SS {command}\n")), "{command}");
         let help = folder.run(&[command, "--help"]).stdout;
         let options = help.split_whitespace().filter(|word| word.starts_with("--"));

@@ -37,7 +37,7 @@ macro_rules! golden {
     };
 }
 
-golden! { new apply show facts check diff draw tickets stat help }
+golden! { new apply show facts check diff draw export import tickets stat help }
 
 #[test]
 fn readme_of_the_tool() {

@@ -2,13 +2,14 @@
 
 use crate::rivals::bit_rows::BitRows;
 use crate::rivals::sorted::Sorted;
+use crate::rivals::triples::{read_triples, write_triples};
 use crate::rivals::{host_call, list_call, program, Rival};
 use crate::{checks, list_calls};
 use std::env;
 use std::io::{stdin, stdout, Result};
 use std::path::{Path, PathBuf};
 use std::process::Command;
-use vimelosa_host::{call_list_raw, call_raw};
+use vimelosa_host::{call_list_raw, call_raw, read_triples_raw, write_triples_raw};
 
 /// Image, ticket, output.
 pub type HostCall = fn(&[u8], &[u8], &mut [u8]) -> u64;
@@ -16,12 +17,19 @@ pub type HostCall = fn(&[u8], &[u8], &mut [u8]) -> u64;
 /// Image, tickets, answers, output.
 pub type ListCall = fn(&[u8], &[u8], &mut [u8], &mut [u8]) -> u64;
 
+/// Image or text, output.
+pub type TextCall = fn(&[u8], &mut [u8]) -> u64;
+
 /// The names, in the order of every column.
 pub const NAMES: [&str; 3] = ["proved", "sorted", "bit rows"];
 
 pub const HOST_CALLS: [HostCall; 3] = [call_raw, host_call::<Sorted>, host_call::<BitRows>];
 
 pub const LIST_CALLS: [ListCall; 3] = [call_list_raw, list_call::<Sorted>, list_call::<BitRows>];
+
+pub const WRITE_CALLS: [TextCall; 3] = [write_triples_raw, write_triples::<Sorted>, write_triples::<BitRows>];
+
+pub const READ_CALLS: [TextCall; 3] = [read_triples_raw, read_triples::<Sorted>, read_triples::<BitRows>];
 
 /// Program one of a candidate, to be run as a process.
 pub fn program_one(name: &str) -> Command {
@@ -38,13 +46,28 @@ pub fn list_load(name: &str) -> Command {
     this_executable("--lists", name)
 }
 
-/// The proved program is in target/bin or where a variable says; a rival's is this executable.
+/// The proved program that writes the text of an image.
+pub fn write_program() -> Command {
+    proved("write_triples", "VIMELOSA_WRITE_TRIPLES")
+}
+
+/// The proved program that writes the image of a text.
+pub fn read_program() -> Command {
+    proved("read_triples", "VIMELOSA_READ_TRIPLES")
+}
+
+/// A rival's program is this executable.
 fn process(name: &str, word: &str, program: &str, variable: &str) -> Command {
     if name == NAMES[0] {
-        let built = Path::new(env!("CARGO_MANIFEST_DIR")).join("../target/bin").join(program);
-        return Command::new(env::var_os(variable).map_or(built, PathBuf::from));
+        return proved(program, variable);
     }
     this_executable(word, name)
+}
+
+/// A proved program is in target/bin or where a variable says.
+fn proved(program: &str, variable: &str) -> Command {
+    let built = Path::new(env!("CARGO_MANIFEST_DIR")).join("../target/bin").join(program);
+    Command::new(env::var_os(variable).map_or(built, PathBuf::from))
 }
 
 fn this_executable(word: &str, name: &str) -> Command {

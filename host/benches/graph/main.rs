@@ -1,6 +1,6 @@
-//! The benchmark: the proved implementation beside two rivals and SQLite, in one run. `--quick` measures
-//! little, `--write` writes the report to docs/, `--program NAME` is a rival's program one, `--check NAME`
-//! its check of one table, `--lists NAME` a candidate's list call on a long list.
+//! The benchmark: the proved implementation beside two rivals, SQLite, serdi and rdflib, in one run.
+//! `--quick` measures little, `--write` writes the report to docs/, `--program NAME` is a rival's program
+//! one, `--check NAME` its check of one table, `--lists NAME` a candidate's list call on a long list.
 
 // `std::hint::black_box` is of Rust 1.66; the tests do without.
 #![allow(clippy::incompatible_msrv)]
@@ -22,6 +22,10 @@ mod settings;
 mod sqlite;
 mod subjects;
 mod tables;
+mod texts;
+mod triples;
+mod triples_programs;
+mod triples_report;
 
 use settings::Settings;
 use std::path::Path;

@@ -11,6 +11,7 @@ use crate::settings::Settings;
 use crate::sqlite;
 use crate::subjects::{Subject, SIZES};
 use crate::tables::{filled, laid_out, shown, table, table_of, Line, Unit};
+use crate::triples_report;
 use std::{fs, slice};
 
 /// The tickets of the host calls.
@@ -71,6 +72,7 @@ pub fn measure(settings: &Settings) -> Report {
     let programs = programs::measure(settings, &lists);
     text += &programs_part(&programs);
     text += &list_calls_part(&list_calls::measure(settings, &lists[..lists.len() - 1]), &programs);
+    text += &triples_report::part(settings, &subjects[1..]);
     text += &sqlite_part(settings);
     Report { text, picture: picture("One host call, mean of five tickets", &curves) }
 }

@@ -19,7 +19,8 @@ fn after(refusal: &Refusal) -> Option<Refusal> {
         Refusal::TooMany => Refusal::Malformed,
         Refusal::Malformed => Refusal::ShortOutput { needed: 84 },
         Refusal::ShortOutput { .. } => Refusal::FewAnswers,
-        Refusal::FewAnswers => return None,
+        Refusal::FewAnswers => Refusal::OutsideProfile,
+        Refusal::OutsideProfile => return None,
     };
     Some(next)
 }

@@ -1,5 +1,5 @@
-/* Uses the header as a caller in C would: a fresh image, one ticket, a list, the check, refusals, and null
- * where a buffer is empty. Each line that it prints is a call and what it gave. */
+/* Uses the header as a caller in C would: a fresh image, one ticket, a list, the check, texts written and
+ * read, refusals, and null where a buffer is empty. Each line that it prints is a call and what it gave. */
 
 #include "vimelosa.h"
 
@@ -22,12 +22,25 @@ enum { TICKETS = 6 };
 /* A byte that no call writes here. */
 enum { LENT = 0xee };
 
+#define RDF "<http://www.w3.org/1999/02/22-rdf-syntax-ns#"
+#define RDFS "<http://www.w3.org/2000/01/rdf-schema#"
+
+/* Class 2 in two lines, and Resource in a third. */
+static const char triples[] =
+    "<urn:id:2> " RDF "type> " RDFS "Class> .\n"
+    "<urn:id:2> " RDFS "subClassOf> " RDFS "Resource> .\n"
+    RDFS "Resource> " RDF "type> " RDFS "Class> .\n";
+
+enum { RESOURCE_LINE = 145 };
+
 static uint8_t answers[TICKETS + 1];
 static uint8_t output[VIMELOSA_LONGEST_IMAGE];
+static uint8_t text[VIMELOSA_LONGEST_TEXT];
 
 static void lend(void) {
     memset(answers, LENT, sizeof answers);
     memset(output, LENT, sizeof output);
+    memset(text, LENT, sizeof text);
 }
 
 static int is_as_lent(const uint8_t *bytes, size_t length) {
@@ -60,6 +73,19 @@ static void print_list(const char *what, uint64_t result) {
 static void print_check(const char *what, uint64_t result) {
     printf("%s: answer %u, rule place %u, above %u\n", what, (unsigned)vimelosa_answer(result),
            (unsigned)vimelosa_rule_place(result), (unsigned)(result >> 32));
+}
+
+static void print_written(const char *what, uint64_t result) {
+    size_t length = vimelosa_text_length(result);
+    printf("%s: answer %u, length %lu, rest as lent %d\n", what, (unsigned)vimelosa_answer(result),
+           (unsigned long)length, is_as_lent(text + length, sizeof text - length));
+}
+
+static void print_read(const char *what, uint64_t result) {
+    size_t length = vimelosa_length(result);
+    printf("%s: answer %u, rule place %u, length %u, rest as lent %d\n", what,
+           (unsigned)vimelosa_answer(result), (unsigned)vimelosa_rule_place(result), (unsigned)length,
+           is_as_lent(output + length, sizeof output - length));
 }
 
 static void print_bytes(const char *what, const uint8_t *bytes, size_t length) {
@@ -128,10 +154,46 @@ static void empty_buffers(void) {
     printf("the image is the old one: %d\n", memcmp(output, fresh, sizeof fresh) == 0);
 }
 
+static void texts_written(void) {
+    lend();
+    uint64_t result = vimelosa_write_triples(fresh, sizeof fresh, text, sizeof text);
+    print_written("write triples", result);
+    const char *line = triples + sizeof triples - 1 - RESOURCE_LINE;
+    printf("the text is one line: %d\n", memcmp(text, line, RESOURCE_LINE) == 0);
+    lend();
+    result = vimelosa_write_triples(fresh, sizeof fresh, text, RESOURCE_LINE - 1);
+    print_written("write triples to a short output", result);
+    /* The last byte is the class Resource; class 2 has no link to it. */
+    uint8_t bad[sizeof fresh];
+    memcpy(bad, fresh, sizeof bad);
+    bad[sizeof bad - 1] = 2;
+    print_written("write triples of a bad image", vimelosa_write_triples(bad, sizeof bad, text, sizeof text));
+    print_written("write triples of no image", vimelosa_write_triples(NULL, 0, NULL, 0));
+}
+
+static void texts_read(void) {
+    const uint8_t *lines = (const uint8_t *)triples;
+    size_t length = sizeof triples - 1;
+    lend();
+    uint64_t result = vimelosa_read_triples(lines, length, output, sizeof output);
+    print_read("read triples", result);
+    print_bytes("bodies", output + 62, vimelosa_length(result) - 62);
+    lend();
+    print_read("read triples to a short output", vimelosa_read_triples(lines, length, output, 65));
+    result = vimelosa_read_triples(lines, length - 1, output, sizeof output);
+    print_read("read triples without a last newline", result);
+    printf("the text is outside the profile: %d\n", vimelosa_answer(result) == VIMELOSA_OUTSIDE_PROFILE);
+    result = vimelosa_read_triples(lines, length - RESOURCE_LINE, output, sizeof output);
+    print_read("read triples without Resource", result);
+    print_read("read no triples", vimelosa_read_triples(NULL, 0, NULL, 0));
+}
+
 int main(void) {
     single_calls();
     list_calls();
     check_calls();
     empty_buffers();
+    texts_written();
+    texts_read();
     return 0;
 }

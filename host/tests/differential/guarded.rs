@@ -8,43 +8,43 @@ use vimelosa_host::{call_list_raw, call_raw, check_raw};
 const GUARD: [u8; 32] = [0xa5; 32];
 
 /// Bytes between two guards.
-struct Guarded {
+pub struct Guarded {
     bytes: Vec<u8>,
 }
 
 impl Guarded {
-    fn of(inner: &[u8]) -> Guarded {
+    pub fn of(inner: &[u8]) -> Guarded {
         Guarded { bytes: [&GUARD, inner, &GUARD].concat() }
     }
 
-    fn inner(&self) -> &[u8] {
+    pub fn inner(&self) -> &[u8] {
         &self.bytes[GUARD.len()..self.bytes.len() - GUARD.len()]
     }
 
-    fn inner_mut(&mut self) -> &mut [u8] {
+    pub fn inner_mut(&mut self) -> &mut [u8] {
         let end = self.bytes.len() - GUARD.len();
         &mut self.bytes[GUARD.len()..end]
     }
 
     /// Both guards and the bytes between them are as expected.
-    fn assert_holds(&self, inner: &[u8]) {
+    pub fn assert_holds(&self, inner: &[u8]) {
         assert_eq!(self.bytes, [&GUARD, inner, &GUARD].concat());
     }
 }
 
 /// Bytes to write to that hold others everywhere, so that a byte left as it was can be told from one written.
-/// None of them is a ticket's number.
-fn lent_bytes(length: usize) -> Vec<u8> {
+/// None of them is a ticket's number or a byte of a text of triples.
+pub fn lent_bytes(length: usize) -> Vec<u8> {
     (0..length).map(|place| 0x80 | place as u8).collect()
 }
 
 /// The bytes from a place on are as they were lent.
-fn assert_untouched_from(place: usize, bytes: &[u8]) {
+pub fn assert_untouched_from(place: usize, bytes: &[u8]) {
     assert_eq!(bytes[place..], lent_bytes(bytes.len())[place..]);
 }
 
 /// One of these answers, with 0 for every other part.
-fn assert_alone(number: u64, answers: &[u64]) {
+pub fn assert_alone(number: u64, answers: &[u64]) {
     assert!(answers.contains(&number), "{number:#x}");
 }
 

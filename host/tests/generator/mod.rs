@@ -1,4 +1,5 @@
-//! A small seeded generator of tickets, graphs and damaged images. The same seed gives the same tests.
+//! A small seeded generator of tickets, graphs, texts, and damaged images and texts. The same seed gives the
+//! same tests.
 
 // Each test uses its own share of this module.
 #![allow(dead_code)]
@@ -6,9 +7,13 @@
 pub mod calls;
 pub mod damage;
 pub mod graphs;
+pub mod inside;
+pub mod lines;
 pub mod long_lists;
+pub mod outside;
 pub mod scripts;
 pub mod tickets;
+pub mod triples;
 
 use std::env;
 

@@ -1,10 +1,11 @@
-//! The calls across the C interface: one ticket, a list of tickets, the check.
+//! The calls across the C interface: one ticket, a list of tickets, the check, a text written, a text read.
 
 use super::image::{facts_in, read, write};
 use super::list::{apply_list, TICKET_LENGTH};
 use super::rules::{first_broken, place_of};
 use super::table::MOST_WORDS;
 use super::ticket::apply;
+use super::triples::{facts_in_text, read_triples, write_triples};
 
 /// The counts of a list call have 16 bits each, so a list has at most so many tickets.
 pub const MOST_TICKETS: usize = 65_535;
@@ -64,6 +65,38 @@ pub fn host_check(image: &[u8]) -> u64 {
             packed(3, place_of(rule), 0, 0)
         }
         answer => packed(answer, 0, 0, 0),
+    }
+}
+
+/// Reads the image into 2,048 words and writes the text of its graph to the output. Refusals 12, 11, 3, 13.
+/// The number holds the answer in its lowest 16 bits and the text's length, 0 on refusal, in those above
+/// them.
+pub fn host_write_triples(image: &[u8], output: &mut [u8]) -> u64 {
+    let mut table = [0; MOST_WORDS];
+    let refusal = read(image, &mut table);
+    if refusal != 0 {
+        return refusal.into();
+    }
+    let (answer, length) = write_triples(&table, output);
+    u64::from(answer) | (length as u64) << 16
+}
+
+/// Reads the text into 2,048 words and writes the image of its graph to the output. Refusals 15, 11, 3, 13.
+/// The number holds the answer; for 3 the place of the first rule that the text's graph breaks, counted from
+/// 1; 0; and the image's length, 0 on refusal: 16 bits each, lowest first.
+pub fn host_read_triples(text: &[u8], output: &mut [u8]) -> u64 {
+    let mut table = [0; MOST_WORDS];
+    match read_triples(text, &mut table) {
+        0 => {
+            let (answer, length) = write(&table, output);
+            packed(answer, 0, 0, length)
+        }
+        3 => {
+            let graph = facts_in_text(text).expect("every line is inside the profile");
+            let rule = first_broken(&graph).expect("the graph is not consistent");
+            packed(3, place_of(rule), 0, 0)
+        }
+        refusal => packed(refusal, 0, 0, 0),
     }
 }
 

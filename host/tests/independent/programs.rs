@@ -1,9 +1,11 @@
-//! What the two programs print.
+//! What the programs print: one and two, and the three that write, read and check triples.
 
+use super::host::host_read_triples;
 use super::image::read;
 use super::list::TICKET_LENGTH;
 use super::table::{facts_of, fresh, MOST_WORDS};
 use super::ticket::{apply, Answer};
+use super::triples::{read_triples, text_of};
 
 /// The answers to the tickets on a fresh table of 2,048 words, and the facts at the end.
 pub fn run_tickets(input: &[u8]) -> (Vec<Answer>, Vec<u32>) {
@@ -70,4 +72,38 @@ pub fn print_facts(input: &[u8]) -> String {
     }
     let line = |word: &u32| format!("{word}\n");
     words_of(&table).iter().map(line).collect()
+}
+
+/// The longest text that `read_triples` and `check_triples` take; of a longer one they print nothing.
+pub const LONGEST_TAKEN: usize = 1_048_576;
+
+/// `write_triples`: the text of an image's graph; nothing for a refused image.
+pub fn print_text(input: &[u8]) -> String {
+    let mut table = [0; MOST_WORDS];
+    if read(input, &mut table) != 0 {
+        return String::new();
+    }
+    text_of(&facts_of(&table).expect("the table is laid out"))
+}
+
+/// `read_triples`: the image of a text's graph; nothing for a refused text.
+pub fn print_image(input: &[u8]) -> Vec<u8> {
+    if input.len() > LONGEST_TAKEN {
+        return Vec::new();
+    }
+    // Two bytes for the contents' head, six for each entry, at most three for each fact.
+    let mut output = vec![0; 2 + 10 * 6 + 3 * MOST_WORDS];
+    let number = host_read_triples(input, &mut output);
+    // Refused, the image has no length.
+    output.truncate((number >> 48) as usize);
+    output
+}
+
+/// `check_triples`: the answer of reading a text.
+pub fn print_answer(input: &[u8]) -> String {
+    if input.len() > LONGEST_TAKEN {
+        return String::new();
+    }
+    let answer = read_triples(input, &mut [0; MOST_WORDS]);
+    format!("{answer}\n")
 }

@@ -33,6 +33,12 @@ pub struct Printed {
     pub errors: String,
 }
 
+/// The same where its output is bytes.
+pub struct PrintedBytes {
+    pub output: Vec<u8>,
+    pub errors: String,
+}
+
 impl Program {
     /// Program one: VIMELOSA_APPLY_TICKETS, or target/bin/apply_tickets of the repository.
     pub fn one() -> Program {
@@ -47,6 +53,21 @@ impl Program {
     /// The calls by a script: VIMELOSA_RUN_CALLS, or target/bin/run_calls of the repository.
     pub fn calls() -> Program {
         Program::find("VIMELOSA_RUN_CALLS", "../target/bin/run_calls")
+    }
+
+    /// The text of an image: VIMELOSA_WRITE_TRIPLES, or target/bin/write_triples of the repository.
+    pub fn write_triples() -> Program {
+        Program::find("VIMELOSA_WRITE_TRIPLES", "../target/bin/write_triples")
+    }
+
+    /// The image of a text: VIMELOSA_READ_TRIPLES, or target/bin/read_triples of the repository.
+    pub fn read_triples() -> Program {
+        Program::find("VIMELOSA_READ_TRIPLES", "../target/bin/read_triples")
+    }
+
+    /// The answer of reading a text: VIMELOSA_CHECK_TRIPLES, or target/bin/check_triples of the repository.
+    pub fn check_triples() -> Program {
+        Program::find("VIMELOSA_CHECK_TRIPLES", "../target/bin/check_triples")
     }
 
     fn find(variable: &str, place: &str) -> Program {
@@ -69,14 +90,19 @@ impl Program {
     }
 
     fn run(&self, fed: Fed) -> Printed {
+        self.run_for_bytes(fed).into_text()
+    }
+
+    /// What the program prints where its output is bytes.
+    pub fn run_for_bytes(&self, fed: Fed) -> PrintedBytes {
         match fed {
-            Fed::File(input) => Printed::by(self.start(file_of(input), Stdio::piped())),
+            Fed::File(input) => PrintedBytes::by(self.start(file_of(input), Stdio::piped())),
             Fed::Pipe(pieces) => {
                 let mut child = self.start(Stdio::piped(), Stdio::piped());
                 let pipe = child.stdin.take().expect("the input is a pipe");
                 thread::scope(|scope| {
                     scope.spawn(move || write_pieces(pipe, &pieces));
-                    Printed::by(child)
+                    PrintedBytes::by(child)
                 })
             }
         }
@@ -92,10 +118,22 @@ impl Program {
 impl Printed {
     /// What the program prints until it ends, where that goes to a pipe.
     pub fn by(child: Child) -> Printed {
+        PrintedBytes::by(child).into_text()
+    }
+}
+
+impl PrintedBytes {
+    /// What the program prints until it ends, where that goes to a pipe.
+    pub fn by(child: Child) -> PrintedBytes {
         let ended = child.wait_with_output().expect("the program ends");
         assert!(ended.status.success(), "{:?}", ended.status);
-        let text = |bytes| String::from_utf8(bytes).expect("the program prints text");
-        Printed { output: text(ended.stdout), errors: text(ended.stderr) }
+        let errors = String::from_utf8(ended.stderr).expect("the program prints text on standard error");
+        PrintedBytes { output: ended.stdout, errors }
+    }
+
+    fn into_text(self) -> Printed {
+        let output = String::from_utf8(self.output).expect("the program prints text");
+        Printed { output, errors: self.errors }
     }
 }
 

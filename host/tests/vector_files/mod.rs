@@ -23,6 +23,21 @@ pub struct PaperCase {
     pub facts: Option<usize>,
 }
 
+/// A call for triples: what it is given, what it is lent, its answer, and what it leaves if that is 0.
+pub enum TriplesCase {
+    /// A text into so many words.
+    Read { name: &'static str, text: Vec<u8>, lent: usize, answer: u8, words: Vec<u32> },
+    /// The words of a table's facts as text to so many bytes.
+    Write { name: &'static str, words: Vec<u32>, lent: usize, answer: u8, text: Vec<u8> },
+}
+
+/// A file of the W3C N-Triples suite, and the answer of reading it into 2,048 words.
+pub struct NTriplesFile {
+    pub name: &'static str,
+    pub text: Vec<u8>,
+    pub answer: u8,
+}
+
 pub fn suite_cases() -> Vec<SuiteCase> {
     lines(include_str!("../../../tests/vectors/w3c.tsv"))
         .map(|columns| SuiteCase {
@@ -43,6 +58,30 @@ pub fn paper_cases() -> Vec<PaperCase> {
             list: tickets(columns[2]),
             answers: some(columns[3]).map(|text| parts(text).map(answer).collect()),
             facts: some(columns[4]).map(number),
+        })
+        .collect()
+}
+
+pub fn triples_cases() -> Vec<TriplesCase> {
+    lines(include_str!("../../../tests/vectors/triples.tsv"))
+        .map(|columns| {
+            let (name, lent, answer) = (columns[0], number(columns[3]), number(columns[4]) as u8);
+            let (given, left) = (columns[2], columns[5]);
+            match columns[1] {
+                "read" => TriplesCase::Read { name, text: text(given), lent, answer, words: words(left) },
+                "write" => TriplesCase::Write { name, words: words(given), lent, answer, text: text(left) },
+                other => panic!("there is no call {other}"),
+            }
+        })
+        .collect()
+}
+
+pub fn ntriples_files() -> Vec<NTriplesFile> {
+    lines(include_str!("../../../tests/vectors/w3c-ntriples.tsv"))
+        .map(|columns| NTriplesFile {
+            name: columns[0],
+            text: text(columns[2]),
+            answer: number(columns[3]) as u8,
         })
         .collect()
 }
@@ -90,3 +129,67 @@ fn words(column: &str) -> Vec<u32> {
     let word = |text: &str| u32::from_str_radix(text, 16).expect("a hexadecimal word");
     some(column).map_or(Vec::new(), |text| parts(text).map(word).collect())
 }
+
+/// The bytes of a text, as the head of triples.tsv describes it.
+fn text(column: &str) -> Vec<u8> {
+    let mut bytes = Vec::new();
+    let mut rest = some(column).unwrap_or("");
+    while let Some(next) = rest.chars().next() {
+        let (length, meant) = match next {
+            '\\' => escaped(rest),
+            '{' => named(rest),
+            _ => (1, vec![rest.as_bytes()[0]]),
+        };
+        bytes.extend(meant);
+        rest = &rest[length..];
+    }
+    bytes
+}
+
+/// How long an escape is, and the byte that it stands for.
+fn escaped(text: &str) -> (usize, Vec<u8>) {
+    match &text[1..2] {
+        "n" => (2, vec![b'\n']),
+        "r" => (2, vec![b'\r']),
+        "t" => (2, vec![b'\t']),
+        "\\" => (2, vec![b'\\']),
+        "x" => (4, bytes(&text[2..4])),
+        other => panic!("there is no escape {other}"),
+    }
+}
+
+/// How long a name in braces is, and the bytes that it stands for.
+fn named(text_from: &str) -> (usize, Vec<u8>) {
+    let end = text_from.find('}').expect("the brace is closed");
+    let name = &text_from[1..end];
+    let meant = match name {
+        "plant" => text(&PLANT.concat()),
+        "type" => format!("<http://www.w3.org/1999/02/22-rdf-syntax-ns#{name}>").into_bytes(),
+        "P" => b"<http://www.w3.org/1999/02/22-rdf-syntax-ns#Property>".to_vec(),
+        "R" => b"<http://www.w3.org/2000/01/rdf-schema#Resource>".to_vec(),
+        "L" => b"<http://www.w3.org/2000/01/rdf-schema#Literal>".to_vec(),
+        "C" => b"<http://www.w3.org/2000/01/rdf-schema#Class>".to_vec(),
+        "subClassOf" | "subPropertyOf" | "domain" | "range" => {
+            format!("<http://www.w3.org/2000/01/rdf-schema#{name}>").into_bytes()
+        }
+        _ => panic!("there is no name {name}"),
+    };
+    (end + 1, meant)
+}
+
+/// The lines of the table that P1 to P7 of document 01 leave.
+const PLANT: [&str; 13] = [
+    "{R} {type} {C} .\\n",
+    "<urn:id:2> {type} {C} .\\n",
+    "<urn:id:3> {type} {C} .\\n",
+    "<urn:id:5> {type} {P} .\\n",
+    "<urn:id:2> {subClassOf} {R} .\\n",
+    "<urn:id:3> {subClassOf} {R} .\\n",
+    "<urn:id:3> {subClassOf} <urn:id:2> .\\n",
+    "<urn:id:5> {domain} <urn:id:2> .\\n",
+    "<urn:id:5> {range} {L} .\\n",
+    "<urn:id:4> {type} {R} .\\n",
+    "<urn:id:6> {type} {R} .\\n",
+    "<urn:id:6> {type} <urn:id:2> .\\n",
+    "<urn:id:6> <urn:id:5> \"7\" .\\n",
+];

@@ -2,7 +2,7 @@
 
 mod check;
 mod deletion;
-mod image;
+pub(super) mod image;
 mod insertion;
 
 use super::clash::{clashes, uses_unknown_property, Lookups};
