@@ -11,7 +11,6 @@ ghost use Rattle.rdfs.specs.Lookups.{
   propertyClash,
   classLinkClash,
   propertyLinkClash,
-  memberClash,
   valueClash,
   lookupClash,
   endsClash,
@@ -178,22 +177,6 @@ fn property_link_clashes(table: &[Word], count: usize, a: Word, b: Word) -> bool
     ends_clash(table, count, x, y, z, w)
 }
 
-// CI(a,b) clashes.
-fn member_clashes(table: &[Word], count: usize, a: Word, b: Word) -> bool
-    requires table { ⌜ Looked (now table) count (a ∷ b ∷ []) ⌝ }
-    ensures answer { λ r. ⌜ r ≡ memberClash (factsOf (now (table .entry))) a b ⌝ }
-{
-    let member = has_other_role(table, count, INDIVIDUAL, a);
-    if member {
-        return true;
-    }
-    let class = has_other_role(table, count, CLASS, b);
-    if class {
-        return true;
-    }
-    a == b
-}
-
 // b cannot be the value of a for property c: with the mark as range it is to be a literal, else an
 // individual.
 fn is_no_value(table: &[Word], count: usize, a: Word, b: Word, c: Word) -> bool
@@ -223,9 +206,9 @@ fn value_clashes(table: &[Word], count: usize, a: Word, b: Word, c: Word) -> boo
     is_no_value(table, count, a, b, c)
 }
 
-// The clash by lookups of an insertion of kind k: on a consistent table, past refusal 9, it is refusal 10,
-// that no consistent graph holds the table and the asked facts. A class, an individual or a literal clashes
-// if it has another role.
+// The clash by lookups of an insertion of kind k: on a consistent table, past refusals 9 and 16, it is
+// refusal 10, that no consistent graph holds the table and the asked facts. A class, an individual or a
+// literal clashes if it has another role, and so does a member, whose class is known to stand.
 pub fn clashes(table: &[Word], count: usize, k: Word, a: Word, b: Word, c: Word) -> bool
     requires table { ⌜ Looked (now table) count (a ∷ b ∷ c ∷ []) ⌝ }
     ensures answer { λ r. ⌜ r ≡ lookupClash (factsOf (now (table .entry))) (ticketOf 1 k a b c) ⌝ }
@@ -234,7 +217,7 @@ pub fn clashes(table: &[Word], count: usize, k: Word, a: Word, b: Word, c: Word)
         PROPERTY => property_clashes(table, count, a, b, c),
         SUBCLASS => class_link_clashes(table, count, a, b),
         SUBPROPERTY => property_link_clashes(table, count, a, b),
-        MEMBER => member_clashes(table, count, a, b),
+        MEMBER => has_other_role(table, count, INDIVIDUAL, a),
         VALUE => value_clashes(table, count, a, b, c),
         _ => has_other_role(table, count, k, a),
     }

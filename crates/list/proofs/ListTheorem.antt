@@ -1,7 +1,7 @@
 -- Demand 3, entire: from the contracts of the calls, for every consistent table and every list but one refused with 14. Assumes
 -- nothing.
 use Prim.Native.Nat.{ℕ, suc, _≤_, _<_}
-use mathlib.Core.Path.{_≡_, refl, sym, ap, subst, _∙_}
+use mathlib.Core.Path.{_≡_, sym, ap, subst, _∙_}
 use mathlib.Core.List.{List, []}
 use native.Mathlib.Omega.{arith}
 use lib.ListN.{length, take, getD, length-take}
@@ -14,7 +14,7 @@ use Rattle.rdfs.proofs.register.Perms.{same-tickets-length}
 use Rattle.rdfs.proofs.register.RunLaws.{runs-table, runs-words-at, runs-number-at}
 use Rattle.rdfs.proofs.register.AfterEach.{after}
 use Rattle.rdfs.proofs.register.Rearrangement.{rearrangement}
-use Rattle.rdfs.proofs.Theorems.{product-sound}
+use Rattle.rdfs.proofs.Theorems.{product-sound, accepted-in-order}
 use Rattle.list_form.specs.Listing.{listRefusal, ListPromise}
 use Rattle.list_form.proofs.CutOff.{cut-take}
 use Rattle.list_form.proofs.Runs.{register-runs, register-keeps}
@@ -81,6 +81,11 @@ module _ (C : Calls) (contracts : Contracts C) (w : List ℕ) (t : Table product
           runs-number-at (step product) l w i h,
         ) one
 
+    ordered : AllInsertions (tickets bytes) → AllAccepted (register product w bytes .numbers)
+        → InOrder (facts product w) (tickets bytes)
+    unfolding register
+    ordered = accepted-in-order product product-sound w t (tickets bytes)
+
     rearranged : AllInsertions (tickets bytes) → AllAccepted (register product w bytes .numbers) → (other room : List ℕ)
         → length room ≡ length answers
         → SameTickets (tickets bytes) (tickets other) → InOrder (facts product w) (tickets other)
@@ -102,5 +107,6 @@ demand-3 C contracts w t bytes answers not-14 =
       first-tickets = λ k. first-tickets k bytes;
       single-words = single-words C contracts w t bytes answers room;
       after-each = after-ticket C contracts w t bytes answers room;
+      ordered = ordered C contracts w t bytes answers room;
       rearranged = rearranged C contracts w t bytes answers room;
     }

@@ -71,8 +71,12 @@ pub record Demand3 (calls : Calls) (table bytes answers : List ℕ) : Type 0 whe
       → AfterTicket (register product table (cutOff i bytes) .table)
       (register product table (cutOff (suc i) bytes) .table)
       (getD (cut recordLength bytes) i []) (getD (register product table bytes .numbers) i 0)
-  -- Insertions only, all accepted: every rearrangement, with as many answer bytes, is accepted whole and ends
-  -- in the same words.
+  -- Insertions only, all accepted: the list is in order.
+  pub ordered : AllInsertions (cut recordLength bytes)
+      → AllAccepted (register product table bytes .numbers)
+      → InOrder (facts product table) (cut recordLength bytes)
+  -- Then every rearrangement in order, with as many answer bytes, is accepted whole and ends in the same
+  -- words.
   pub rearranged : AllInsertions (cut recordLength bytes)
       → AllAccepted (register product table bytes .numbers)
       → (other room : List ℕ) → length room ≡ length answers

@@ -15,17 +15,18 @@ use Rattle.rdfs.specs.Consistency.{Consistent, Smallest, Largest, keeps}
 use Rattle.rdfs.specs.Words.{facts}
 use Rattle.rdfs.specs.Clashes.{clashes, consistent?}
 use Rattle.rdfs.specs.Insertion.{insertion}
-use Rattle.rdfs.specs.Tickets.{Ticket, decoded, inserts, deletes, named, asked, unknownProperty}
+use Rattle.rdfs.specs.Tickets.{Ticket, decoded, inserts, deletes, named, asked}
 use Rattle.rdfs.specs.Register.{step, run, Table}
 use Rattle.rdfs.specs.Lookups.{lookupClash}
-use Rattle.rdfs.specs.Orders.{SameTickets, InOrder, AllInsertions, AllAccepted}
-use Rattle.rdfs.specs.Promises.{After, Formed, Judged, Possible, PossibleUpTo, unchanged}
+use Rattle.rdfs.specs.Orders.{SameTickets, MakesProperty, MakesClass, InOrder, AllInsertions, AllAccepted}
+use Rattle.rdfs.specs.Promises.{After, Formed, Known, Judged, Possible, PossibleUpTo, unchanged}
 use Rattle.rdfs.proofs.lists.Tests.{tests-self, tests-agree}
 use Rattle.rdfs.proofs.consistency.LawfulParts.{All}
 use Rattle.rdfs.proofs.words.Allowed.{Allowed}
 use Rattle.rdfs.proofs.consistency.Decision.{check-sound, check-complete}
 use Rattle.rdfs.proofs.insertion.InsertionSmallest.{insertion-smallest, insertion-clash}
-use Rattle.rdfs.proofs.tickets.TicketTests.{asked-allowed}
+use Rattle.rdfs.proofs.tickets.TicketTests.{asked-allowed, provided-known}
+use Rattle.rdfs.proofs.tickets.UnknownClass.{sixteen-unknown, sixteen-only, sixteen-if}
 use Rattle.rdfs.proofs.insertion.AskedSeeds.{asked-seeds}
 use Rattle.rdfs.proofs.tickets.Steps.{refused-keeps}
 use Rattle.rdfs.proofs.insertion.InsertionSteps.{
@@ -35,9 +36,12 @@ use Rattle.rdfs.proofs.insertion.InsertionSteps.{
   eleven-impossible,
 }
 use Rattle.rdfs.proofs.deletion.DeletionSteps.{deletion-accepted, accepted-largest, repeated-deletion}
+use Rattle.rdfs.proofs.insertion.Makes.{class-made, asked-provided}
+use Rattle.rdfs.proofs.insertion.MadeBy as made
 use Rattle.rdfs.proofs.insertion.Within.{repeated-insertion}
 use Rattle.rdfs.proofs.register.AfterEach.{after-each}
 use Rattle.rdfs.proofs.register.Rearrangement
+use Rattle.rdfs.proofs.register.AcceptedOrder as ordered
 use Rattle.rdfs.proofs.clash.LookupClash.{lookup-clash-sound, lookup-clash-complete}
 
 -- The product's numbers are such.
@@ -67,9 +71,43 @@ module _ (N : Numbers) (s : Sound N) (table bytes : List ℕ) (q : Table N table
       → Smallest (graph (facts N table)) (graph (asked (decoded bytes))) (graph (facts N (step N table bytes .table)))
   insertion-is-smallest i e = accepted-smallest N s table bytes q i e
 
-  -- An insertion past refusal 9 is refused with 10 exactly if no lawful graph holds the table and the asked facts: 10 if none
-  -- does, whatever its ids; else one does whose facts a table can have.
-  pub ten-is-exact : T (inserts (decoded bytes)) → Formed N bytes → (T (unknownProperty (facts N table) (decoded bytes)) → ⊥)
+  -- A ticket past refusal 8 is refused with 16 exactly if it inserts CI with an id that is no class of the table, whatever else
+  -- that id is and however full the table is.
+  pub sixteen-is-exact : Formed N bytes
+      → (step N table bytes .number ≡ 16
+      → T (inserts (decoded bytes)) × (decoded bytes .kind ≡ 9) × (cl (decoded bytes .b) ∈ facts N table → ⊥))
+      × (T (inserts (decoded bytes)) → decoded bytes .kind ≡ 9 → (cl (decoded bytes .b) ∈ facts N table → ⊥)
+      → step N table bytes .number ≡ 16)
+  sixteen-is-exact f = (sixteen-only N table bytes, sixteen-if N table bytes q f)
+
+  -- An insertion whose asked facts are there is never refused with 16, whatever else is wrong with it.
+  pub repeat-is-never-sixteen : T (inserts (decoded bytes)) → asked (decoded bytes) ⊆ facts N table
+      → step N table bytes .number ≡ 16 → ⊥
+  repeat-is-never-sixteen i all e =
+      let t : Ticket = decoded bytes in
+      provided-known (facts N table) t i (asked-provided (facts N table) t all (q .consistent)) .class
+      (sixteen-unknown N table bytes e)
+
+  -- An accepted ticket leaves each class that it makes: that of kind 1, both of CSub, the domain and, but for the mark, the range
+  -- of a property.
+  pub made-stands : step N table bytes .number ≡ 0 → (x : ℕ) → MakesClass (decoded bytes) x
+      → cl x ∈ facts N (step N table bytes .table)
+  made-stands e x m =
+      let a = accepted-smallest N s table bytes q (m .0) e in
+      class-made (facts N (step N table bytes .table)) (decoded bytes) (a .holds-asked) (a .consistent) x m
+
+  -- It leaves no other new class, and no new property but the one that it makes: a member never brings its class into being.
+  pub class-by-maker : T (inserts (decoded bytes)) → step N table bytes .number ≡ 0 → (x : ℕ)
+      → cl x ∈ facts N (step N table bytes .table) → (cl x ∈ facts N table) ⊎ MakesClass (decoded bytes) x
+  class-by-maker = made.class-by-maker N s table bytes q
+
+  pub property-by-maker : T (inserts (decoded bytes)) → step N table bytes .number ≡ 0 → (p : ℕ)
+      → pr p ∈ facts N (step N table bytes .table) → (pr p ∈ facts N table) ⊎ MakesProperty (decoded bytes) p
+  property-by-maker = made.property-by-maker N s table bytes q
+
+  -- An insertion past refusals 9 and 16 is refused with 10 exactly if no lawful graph holds the table and the asked facts: 10 if
+  -- none does, whatever its ids; else one does whose facts a table can have.
+  pub ten-is-exact : T (inserts (decoded bytes)) → Formed N bytes → Known (facts N table) (decoded bytes)
       → (step N table bytes .number ≡ 10 → Possible (graph (facts N table)) (graph (asked (decoded bytes))) → ⊥)
       × ((step N table bytes .number ≡ 10 → ⊥) → PossibleUpTo (N .top) (graph (facts N table)) (graph (asked (decoded bytes))))
   ten-is-exact i f u = (refused-impossible N s table bytes q i f, impossible-refused N s table bytes q i f u)
@@ -104,24 +142,31 @@ pub every-ticket : (N : Numbers) → Sound N → (table : List ℕ) → Table N 
     → After N (run N table before .table) ticket
 every-ticket = after-each
 
--- Insertions only, all accepted: every rearrangement in order is accepted whole and ends in the same words.
+-- Insertions only, all accepted: every rearrangement in order, each property and each class made before it is used, is accepted
+-- whole and ends in the same words.
 pub rearranged-the-same : (N : Numbers) → Sound N → (table : List ℕ) → Table N table → (l m : List (List ℕ)) → AllInsertions l
     → AllAccepted (run N table l .numbers) → SameTickets l m → InOrder (facts N table) m
     → AllAccepted (run N table m .numbers) × (run N table m .table ≡ run N table l .table)
 rearranged-the-same = Rearrangement.rearrangement
 
+-- Insertions only: a list that is accepted whole is in order. So, of the rearrangements of one, those in order are accepted whole
+-- and no other.
+pub accepted-in-order : (N : Numbers) → Sound N → (table : List ℕ) → Table N table → (l : List (List ℕ)) → AllInsertions l
+    → AllAccepted (run N table l .numbers) → InOrder (facts N table) l
+accepted-in-order = ordered.accepted-in-order
+
 -- The clash by lookups is the register's.
-pub lookup-clash-is-clash : (top : ℕ) (K : List Fact) (ticket : Ticket) → All (Allowed top) K → T (inserts ticket)
-    → Judged top K ticket
+pub lookup-clash-is-clash : (top : ℕ) (K : List Fact) (ticket : Ticket) → All (Allowed top) K → Judged top K ticket
     → lookupClash K ticket ≡ clashes (insertion top K (asked ticket))
-lookup-clash-is-clash top K ticket aK i j =
-    let an : All (Allowed top) (asked ticket) = asked-allowed top ticket i (j .kinds) (j .ids) in
+lookup-clash-is-clash top K ticket aK j =
+    let an : All (Allowed top) (asked ticket) = asked-allowed top ticket (j .insert) (j .kinds) (j .ids) in
     tests-agree (tests-self (lookupClash K ticket)) record {
       sound = λ h. stands (lookupClash K ticket) (λ n.
           let p = lookup-clash-complete top K ticket j n in
           insertion-clash top K (asked ticket) aK an h (p .0) (p .1) (p .2) (p .3));
       complete = λ h. stands (clashes (insertion top K (asked ticket))) (λ n.
-          let m = insertion-smallest top K (asked ticket) aK an (asked-seeds K ticket (j .consistent) (j .kinds) (j .uses)) n in
+          let seeds = asked-seeds K ticket (j .consistent) (j .kinds) (j .provided) in
+          let m = insertion-smallest top K (asked ticket) aK an seeds n in
           lookup-clash-sound top K ticket j h (graph (insertion top K (asked ticket))) (m .consistent) (m .holds-table)
           (m .holds-asked));
     }

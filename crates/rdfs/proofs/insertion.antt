@@ -4,4 +4,6 @@ pub mod Seeds
 pub mod InsertionSmallest
 pub mod AskedSeeds
 pub mod InsertionSteps
+pub mod Makes
+pub mod MadeBy
 pub mod Within

@@ -4,3 +4,4 @@ pub mod Perms
 pub mod RunLaws
 pub mod AfterEach
 pub mod Rearrangement
+pub mod AcceptedOrder

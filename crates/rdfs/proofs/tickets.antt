@@ -3,3 +3,4 @@ pub mod TicketTests
 pub mod FirstTrue
 pub mod TicketRefusals
 pub mod Steps
+pub mod UnknownClass

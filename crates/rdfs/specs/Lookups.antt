@@ -57,9 +57,6 @@ abbrev pub propertyLinkClash : List Fact → ℕ → ℕ → Bool
 propertyLinkClash K a b =
     eqb a b || (has K (psub b a) || endsClash K (domainOf K a) (domainOf K b) (rangeOf K a) (rangeOf K b))
 
-abbrev pub memberClash : List Fact → ℕ → ℕ → Bool
-memberClash K a b = otherRole K 3 a || (otherRole K 1 b || eqb a b)
-
 -- b can't be a value of a by property c.
 abbrev pub noValue : List Fact → ℕ → ℕ → ℕ → Bool
 noValue K a b c = cond (has K (rng c 1)) (otherRole K 4 b || eqb a b) (otherRole K 3 b)
@@ -67,11 +64,12 @@ noValue K a b c = cond (has K (rng c 1)) (otherRole K 4 b || eqb a b) (otherRole
 abbrev pub valueClash : List Fact → ℕ → ℕ → ℕ → Bool
 valueClash K a b c = otherRole K 3 a || noValue K a b c
 
+-- CI with a class of the table clashes as Ind does.
 unfoldable pub lookupClash : List Fact → Ticket → Bool
 lookupClash K ticket =
     cond (eqb (ticket .kind) 2) (propertyClash K ticket)
     (cond (eqb (ticket .kind) 5) (classLinkClash K (ticket .a) (ticket .b))
     (cond (eqb (ticket .kind) 6) (propertyLinkClash K (ticket .a) (ticket .b))
-    (cond (eqb (ticket .kind) 9) (memberClash K (ticket .a) (ticket .b))
+    (cond (eqb (ticket .kind) 9) (otherRole K 3 (ticket .a))
     (cond (eqb (ticket .kind) 10) (valueClash K (ticket .a) (ticket .b) (ticket .c))
     (otherRole K (ticket .kind) (ticket .a))))))

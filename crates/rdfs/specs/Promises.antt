@@ -6,7 +6,7 @@ use mathlib.Core.List.{List}
 use lib.Dec.{T}
 use Rattle.rdfs.specs.Numbers.{Numbers, ticketKinds}
 use Rattle.rdfs.specs.Lists.{_∈_, _⊆_}
-use Rattle.rdfs.specs.Facts.{Fact, Graph, pr, graph, _⊑_}
+use Rattle.rdfs.specs.Facts.{Fact, Graph, cl, pr, graph, _⊑_}
 use Rattle.rdfs.specs.Consistency.{Lawful, Consistent}
 use Rattle.rdfs.specs.Words.{allowed, facts}
 use Rattle.rdfs.specs.Tickets.{
@@ -21,9 +21,11 @@ use Rattle.rdfs.specs.Tickets.{
   badKind,
   badIds,
   guarded,
+  unknownProperty,
+  unknownClass,
 }
 use Rattle.rdfs.specs.Register.{Answer, step, Table}
-use Rattle.rdfs.specs.Orders.{Uses}
+use Rattle.rdfs.specs.Orders.{UsesProperty, UsesClass}
 
 -- Past refusal 8: the bytes are a ticket, and it names something that may be changed.
 pub record Formed (N : Numbers) (bytes : List ℕ) : Type 0 where
@@ -33,12 +35,23 @@ pub record Formed (N : Numbers) (bytes : List ℕ) : Type 0 where
   pub ids : T (badIds (N .top) (decoded bytes)) → ⊥
   pub free : T (guarded (decoded bytes)) → ⊥
 
--- An insertion past refusal 9, on the facts of a consistent table.
+-- Past refusals 9 and 16.
+pub record Known (K : List Fact) (ticket : Ticket) : Type 0 where
+  pub property : T (unknownProperty K ticket) → ⊥
+  pub class : T (unknownClass K ticket) → ⊥
+
+-- Every property and every class that the ticket uses stands.
+pub record Provided (K : List Fact) (ticket : Ticket) : Type 0 where
+  pub properties : (p : ℕ) → UsesProperty ticket p → pr p ∈ K
+  pub classes : (x : ℕ) → UsesClass ticket x → cl x ∈ K
+
+-- An insertion past refusals 9 and 16, on the facts of a consistent table.
 pub record Judged (top : ℕ) (K : List Fact) (ticket : Ticket) : Type 0 where
   pub consistent : Consistent (graph K)
+  pub insert : T (inserts ticket)
   pub kinds : ticket .kind ∈ ticketKinds
   pub ids : T (badIds top ticket) → ⊥
-  pub uses : (p : ℕ) → Uses ticket p → pr p ∈ K
+  pub provided : Provided K ticket
 
 -- Some lawful graph holds G and A.
 abbrev pub Possible : Graph → Graph → Type 1

@@ -23,6 +23,7 @@ use Rattle.rdfs.specs.Tickets.{
   badIds,
   guarded,
   unknownProperty,
+  unknownClass,
   clashing,
 }
 
@@ -83,9 +84,10 @@ abbrev pub ticketTests : Numbers → List ℕ → List Fact → List Fact → Li
 ticketTests N table K new bytes =
     let ticket : Ticket = decoded bytes in
     ((4, badLength bytes) ∷ formTests N ticket)
-    ++ ((9, unknownProperty K ticket) ∷ (10, clashing new ticket) ∷ (11, tooMany N table new) ∷ [])
+    ++ ((9, unknownProperty K ticket) ∷ (16, unknownClass K ticket)
+    ∷ (10, clashing new ticket) ∷ (11, tooMany N table new) ∷ [])
 
--- 1 and 2, then those of a call's own; 1, 2, 3, then those; 4 to 11.
+-- 1 and 2, then those of a call's own; 1, 2, 3, then those; 4 to 9, 16, 10, 11.
 abbrev pub layoutRefusal : Numbers → List ℕ → ℕ → ℕ
 layoutRefusal N table = firstOr (layoutTests N table)
 

@@ -6,7 +6,7 @@ use lib.Dec.{eqb, ltb}
 use lib.ListN.{length, getD}
 use Rattle.rdfs.specs.Numbers.{recordLength, arity, ticketKinds}
 use Rattle.rdfs.specs.Lists.{member}
-use Rattle.rdfs.specs.Facts.{Fact, pr, dom, rng, made, has}
+use Rattle.rdfs.specs.Facts.{Fact, cl, pr, dom, rng, made, has}
 use Rattle.rdfs.specs.Clashes.{clashes}
 
 pub record Ticket : Type 0 where
@@ -88,6 +88,10 @@ unknownProperty K ticket =
     inserts ticket
     && ((eqb (ticket .kind) 6 && (not (has K (pr (ticket .a))) || not (has K (pr (ticket .b)))))
     || (eqb (ticket .kind) 10 && not (has K (pr (ticket .c)))))
+
+-- 16: inserting CI with b not a class of the table.
+abbrev pub unknownClass : List Fact → Ticket → Bool
+unknownClass K ticket = inserts ticket && (eqb (ticket .kind) 9 && not (has K (cl (ticket .b))))
 
 -- 10: what the rules demand beside the table and the asked facts breaks a rule that forbids.
 abbrev pub clashing : List Fact → Ticket → Bool

@@ -25,6 +25,7 @@ pub use refusals::MALFORMED;
 pub use refusals::OUTSIDE_PROFILE;
 pub use refusals::SHORT_OUTPUT;
 pub use refusals::TOO_MANY;
+pub use refusals::UNKNOWN_CLASS;
 pub use refusals::UNKNOWN_PROPERTY;
 pub use room::Stored;
 pub use room::clear_from;

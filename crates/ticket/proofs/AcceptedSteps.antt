@@ -11,10 +11,10 @@ use Rattle.rdfs.specs.Facts.{Fact}
 use Rattle.rdfs.specs.Words.{word, filled, facts, words, padded}
 use Rattle.rdfs.specs.Insertion.{insertion}
 use Rattle.rdfs.specs.Deletion.{deletion}
-use Rattle.rdfs.specs.Tickets.{decoded, inserts, deletes, asked, named, unknownProperty}
+use Rattle.rdfs.specs.Tickets.{decoded, inserts, deletes, asked, named}
 use Rattle.rdfs.specs.Lookups.{lookupClash}
 use Rattle.rdfs.specs.Register.{step, Table}
-use Rattle.rdfs.specs.Promises.{Formed, unchanged}
+use Rattle.rdfs.specs.Promises.{Formed, Known, unchanged}
 use Rattle.rdfs.proofs.lists.Sorted.{sort-ascending}
 use Rattle.rdfs.proofs.words.LaidOut.{laid-ascending, laid-words, laid-fits}
 use Rattle.rdfs.proofs.lists.Counts.{besides-balance}
@@ -73,7 +73,7 @@ module _ (w bytes : List ℕ) where
 
     module _ (f : Formed product bytes) (m : ℕ) where
       -- An insertion without a clash whose graph fits.
-      pub stepped-inserted : T (inserts (decoded bytes)) → (T (unknownProperty (facts product w) (decoded bytes)) → ⊥)
+      pub stepped-inserted : T (inserts (decoded bytes)) → Known (facts product w) (decoded bytes)
           → (T (lookupClash (facts product w) (decoded bytes)) → ⊥)
           → m ≡ length (words product (insertion (product .top) (facts product w) (asked (decoded bytes)))) → m ≤ length w
           → Stepped n (Facts m) (padded (length w) (words product (insertion (product .top) (facts product w)

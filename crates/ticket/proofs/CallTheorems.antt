@@ -2,19 +2,20 @@
 -- them is its contract, `ApplyPromise`. Assumes nothing.
 use Prim.Native.Nat.{ℕ}
 use mathlib.Core.Path.{_≡_, sym, ap, subst, _∙_}
-use mathlib.Core.Logic.{inl, inr, ⊎-elim}
+use mathlib.Core.Logic.{_⊎_, inl, inr, ⊎-elim}
 use mathlib.Core.List.{List}
 use lib.Dec.{T}
 use lib.ListN.{length}
 use Rattle.rdfs.specs.Numbers.{product}
 use Rattle.rdfs.specs.Lists.{_∈_, _⊆_}
-use Rattle.rdfs.specs.Facts.{graph, _⊑_}
+use Rattle.rdfs.specs.Facts.{cl, graph, _⊑_}
 use Rattle.rdfs.specs.Consistency.{Smallest, Largest, keeps}
 use Rattle.rdfs.specs.Words.{facts}
 use Rattle.rdfs.specs.Tickets as defs
 use Rattle.rdfs.specs.Refusals.{First}
 use Rattle.rdfs.specs.Register.{step, Table}
-use Rattle.rdfs.specs.Promises.{After, Formed, Possible, PossibleUpTo, unchanged}
+use Rattle.rdfs.specs.Orders.{MakesClass}
+use Rattle.rdfs.specs.Promises.{After, Formed, Known, Possible, PossibleUpTo, unchanged}
 use Rattle.rdfs.proofs.tickets.FirstTrue.{first-true}
 use Rattle.rdfs.proofs.tickets.TicketRefusals.{passed}
 use Rattle.rdfs.proofs.tickets.Steps.{step-number, refused-keeps}
@@ -23,6 +24,10 @@ use Rattle.rdfs.proofs.register.AfterEach.{after}
 use Rattle.rdfs.proofs.Theorems.{
   product-sound,
   insertion-is-smallest,
+  sixteen-is-exact,
+  repeat-is-never-sixteen,
+  made-stands,
+  class-by-maker,
   ten-is-exact,
   eleven-only-if-full,
   deletion-is-largest,
@@ -52,9 +57,32 @@ module _ (w b v : List ℕ) (r : Applied) (t : Table product w) (a : ApplyPromis
       (graph (facts product x))) (sym (a .words))
       (insertion-is-smallest product product-sound w b t i (zero-number e))
 
-  -- Past refusal 9, 10 exactly if there is none, whatever its ids; else there is one whose facts a table can have.
-  pub call-ten : T (defs.inserts (defs.decoded b)) → Formed product b
-      → (T (defs.unknownProperty (facts product w) (defs.decoded b)) → ⊥)
+  -- Past refusal 8, 16 exactly if the ticket inserts CI with an id that is no class of the table.
+  pub call-sixteen : Formed product b
+      → (r .answer ≡ 16
+      → T (defs.inserts (defs.decoded b)) × (defs.decoded b .kind ≡ 9) × (cl (defs.decoded b .b) ∈ facts product w → ⊥))
+      × (T (defs.inserts (defs.decoded b)) → defs.decoded b .kind ≡ 9 → (cl (defs.decoded b .b) ∈ facts product w → ⊥)
+      → r .answer ≡ 16)
+  call-sixteen f = let x = sixteen-is-exact product product-sound w b t f in
+      ((λ e. x .0 (sym (a .number) ∙ e)), (λ i k n. a .number ∙ x .1 i k n))
+
+  -- An insertion whose asked facts are there is not refused with 16.
+  pub call-repeat-is-never-sixteen : T (defs.inserts (defs.decoded b)) → defs.asked (defs.decoded b) ⊆ facts product w
+      → r .answer ≡ 16 → ⊥
+  call-repeat-is-never-sixteen i all e = repeat-is-never-sixteen product product-sound w b t i all (sym (a .number) ∙ e)
+
+  -- An accepted insertion leaves the classes that were there and those that it makes, and no other.
+  pub call-classes : T (defs.inserts (defs.decoded b)) → r .answer ≡ 0 → (x : ℕ)
+      → (cl x ∈ facts product v → (cl x ∈ facts product w) ⊎ MakesClass (defs.decoded b) x)
+      × ((cl x ∈ facts product w) ⊎ MakesClass (defs.decoded b) x → cl x ∈ facts product v)
+  call-classes i e x = (
+    (λ h. class-by-maker product product-sound w b t i (zero-number e) x (subst (λ u. cl x ∈ facts product u) (a .words) h)),
+    ⊎-elim (call-smallest i e .holds-table (cl x)) (λ m. subst (λ u. cl x ∈ facts product u) (sym (a .words))
+        (made-stands product product-sound w b t (zero-number e) x m)),
+  )
+
+  -- Past refusals 9 and 16, 10 exactly if there is none, whatever its ids; else there is one whose facts a table can have.
+  pub call-ten : T (defs.inserts (defs.decoded b)) → Formed product b → Known (facts product w) (defs.decoded b)
       → (r .answer ≡ 10 → Possible (graph (facts product w)) (graph (defs.asked (defs.decoded b))) → ⊥)
       × ((r .answer ≡ 10 → ⊥) → PossibleUpTo (product .top) (graph (facts product w)) (graph (defs.asked (defs.decoded b))))
   call-ten i f u = let x = ten-is-exact product product-sound w b t i f u in

@@ -11,15 +11,15 @@ use Rattle.rdfs.specs.Facts.{Fact}
 use Rattle.rdfs.specs.Words.{facts, words}
 use Rattle.rdfs.specs.Clashes.{clashes}
 use Rattle.rdfs.specs.Insertion.{insertion}
-use Rattle.rdfs.specs.Tickets.{decoded, inserts, asked, badLength, unknownProperty, clashing}
+use Rattle.rdfs.specs.Tickets.{decoded, inserts, asked, badLength, unknownProperty, unknownClass, clashing}
 use Rattle.rdfs.specs.Lookups.{lookupClash}
 use Rattle.rdfs.specs.Refusals.{formTests, here, later, tableRefusal}
 use Rattle.rdfs.specs.Register.{answer, step, Table}
-use Rattle.rdfs.specs.Promises.{Formed}
+use Rattle.rdfs.specs.Promises.{Formed, Known}
 use Rattle.rdfs.proofs.lists.Tests.{and-both, both-and}
-use Rattle.rdfs.proofs.tickets.TicketTests.{known-kind, uses-known}
+use Rattle.rdfs.proofs.tickets.TicketTests.{known-kind, known-provided}
 use Rattle.rdfs.proofs.tickets.FirstTrue.{pass-link, first-stops}
-use Rattle.rdfs.proofs.tickets.TicketRefusals.{Sane, new, refusal, past-form}
+use Rattle.rdfs.proofs.tickets.TicketRefusals.{Sane, new, refusal, past-form, past-known}
 use Rattle.rdfs.proofs.tickets.Steps.{table-sane, table-passes, table-stops, table-allowed, step-number, wrong-length}
 use Rattle.rdfs.proofs.insertion.InsertionSteps.{new-is}
 use Rattle.rdfs.proofs.Theorems.{product-sound, lookup-clash-is-clash}
@@ -67,27 +67,33 @@ module _ (w bytes : List ℕ) (t : Table product w) where
 
   module _ (f : Formed product bytes) where
     -- Refusal 9.
-    pub unknown-refused : T (unknownProperty (facts product w) (decoded bytes)) → step product w bytes ≡ refusedWith 9 w
-    unknown-refused u = refused-as w bytes 9 (past-form product w bytes sane f (here u)) (omega arith)
+    pub property-refused : T (unknownProperty (facts product w) (decoded bytes)) → step product w bytes ≡ refusedWith 9 w
+    property-refused u = refused-as w bytes 9 (past-form product w bytes sane f (here u)) (omega arith)
 
-    module _ (i : T (inserts (decoded bytes))) (k : T (unknownProperty (facts product w) (decoded bytes)) → ⊥) where
+    -- Refusal 16.
+    pub class-refused : (T (unknownProperty (facts product w) (decoded bytes)) → ⊥)
+        → T (unknownClass (facts product w) (decoded bytes)) → step product w bytes ≡ refusedWith 16 w
+    class-refused n u = refused-as w bytes 16 (past-form product w bytes sane f (later n (here u))) (omega arith)
+
+    module _ (i : T (inserts (decoded bytes))) (k : Known (facts product w) (decoded bytes)) where
       abbrev grown : List Fact
       grown = insertion (product .top) (facts product w) (asked (decoded bytes))
 
       -- The clash by lookups is that of the graph which the ticket would leave.
       pub looked-clash : lookupClash (facts product w) (decoded bytes) ≡ clashes (new product w bytes)
       looked-clash = lookup-clash-is-clash (product .top) (facts product w) (decoded bytes) (table-allowed product product-sound w
-          t) i record {
+          t) record {
             consistent = t .consistent;
+            insert = i;
             kinds = known-kind (decoded bytes) (f .kind);
             ids = f .ids;
-            uses = uses-known (facts product w) (decoded bytes) i k;
+            provided = known-provided (facts product w) (decoded bytes) i k;
           } ∙ ap clashes (sym (new-is product product-sound w bytes t i))
 
       -- Refusal 10.
       pub clash-refused : T (lookupClash (facts product w) (decoded bytes)) → step product w bytes ≡ refusedWith 10 w
-      clash-refused c = refused-as w bytes 10 (past-form product w bytes sane f (later k (here (both-and (inserts (decoded bytes))
-          (clashes (new product w bytes)) i (subst T looked-clash c))))) (omega arith)
+      clash-refused c = refused-as w bytes 10 (past-known product w bytes sane f k (here (both-and (inserts (decoded bytes))
+          (clashes (new product w bytes)) i (subst T looked-clash c)))) (omega arith)
 
       pub clash-free : (T (lookupClash (facts product w) (decoded bytes)) → ⊥)
           → T (clashing (new product w bytes) (decoded bytes)) → ⊥
@@ -99,5 +105,5 @@ module _ (w bytes : List ℕ) (t : Table product w) where
       too-many-refused n h =
           let more : length w < length (words product (new product w bytes)) =
           subst (λ L. length w < length (words product L)) (sym (new-is product product-sound w bytes t i)) h in
-          refused-as w bytes 11 (past-form product w bytes sane f (later k (later (clash-free n)
-          (here (lt→ltb (length w) _ more))))) (omega arith)
+          refused-as w bytes 11 (past-known product w bytes sane f k (later (clash-free n) (here (lt→ltb (length w) _ more))))
+          (omega arith)

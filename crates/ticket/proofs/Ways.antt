@@ -9,19 +9,19 @@ use lib.ListN.{length, take, drop, replicate, length-append, length-drop}
 use lib.Seq.{take-append-seam}
 use Rattle.rdfs.specs.Numbers.{product}
 use Rattle.rdfs.specs.Lists.{all}
-use Rattle.rdfs.specs.Facts.{made, has}
+use Rattle.rdfs.specs.Facts.{Fact, made, has}
 use Rattle.rdfs.specs.Words.{filled, words, padded}
 use Rattle.rdfs.specs.Clashes.{clashes}
 use Rattle.rdfs.specs.Insertion.{insertion}
 use Rattle.rdfs.specs.Deletion.{deletion}
-use Rattle.rdfs.specs.Tickets.{asked, unknownProperty, ticketOf}
+use Rattle.rdfs.specs.Tickets.{Ticket, asked, unknownProperty, unknownClass, ticketOf}
 use Rattle.rdfs.specs.Lookups.{lookupClash}
 use Rattle.rdfs.specs.Refusals.{orElse, tooMany}
 use Rattle.rdfs.specs.Register.{step}
-use Rattle.rdfs.specs.Promises.{Formed}
+use Rattle.rdfs.specs.Promises.{Formed, Known}
 use Rattle.rdfs.proofs.words.FactLaws.{tests-all-has}
 use Rattle.rdfs.proofs.words.LaidOut.{laid-shape}
-use Rattle.rdfs.proofs.tickets.TicketTests.{known-kind, uses-known}
+use Rattle.rdfs.proofs.tickets.TicketTests.{known-kind, known-provided}
 use Rattle.rdfs.proofs.Theorems.{product-sound}
 use Rattle.rdfs.proofs.insertion.InsertionSteps.{new-is}
 use Rattle.rdfs.proofs.insertion.Within.{repeated-insertion}
@@ -35,7 +35,14 @@ use Rattle.ticket_form.specs.TicketForm.{recordOf, Asked}
 use Rattle.ticket.specs.Ready.{Ready, Possible}
 use Rattle.ticket.specs.Answered.{Stepped}
 use Rattle.ticket.specs.declared.step.Step.the-variants.{Facts, Refused}
-use Rattle.ticket.proofs.RefusedSteps.{formed-record, looked-clash, unknown-refused, clash-refused, too-many-refused}
+use Rattle.ticket.proofs.RefusedSteps.{
+  formed-record,
+  looked-clash,
+  property-refused,
+  class-refused,
+  clash-refused,
+  too-many-refused,
+}
 use Rattle.ticket.proofs.AcceptedSteps.{stepped-refused, stepped-same, stepped-inserted, stepped-deleted}
 
 holds : {b : Bool} → b ≡ true → T b
@@ -43,6 +50,10 @@ holds e = subst T (sym e) tt
 
 fails : {b : Bool} → b ≡ false → T b → ⊥
 fails e t = subst T e t
+
+-- The answers of the two lookups for what an insertion uses.
+pub known-by : {K : List Fact} {t : Ticket} → false ≡ unknownProperty K t → false ≡ unknownClass K t → Known K t
+known-by p c = record { property = fails (sym p); class = fails (sym c) }
 
 -- Words that fill no more than the list they are padded in.
 padded-room : (l x : List ℕ) (n : ℕ) → x ≡ padded n l → length x ≡ n → length l ≤ n
@@ -66,10 +77,15 @@ module _ {w : List ℕ} {n o k a b c : ℕ} (r : Ready w n o k a b c) where
   ready-asked = record { table = record { laid = r .table .laid; size = r .size }; formed = r .formed }
 
 module _ {w : List ℕ} {n k a b c : ℕ} (r : Ready w n 1 k a b c) where
-  pub way-unknown : true ≡ unknownProperty (factsOf w) (ticketOf 1 k a b c)
+  pub way-no-property : true ≡ unknownProperty (factsOf w) (ticketOf 1 k a b c)
       → Stepped n (Refused 9) w (step product w (recordOf 1 k a b c))
-  way-unknown e = stepped-refused w (recordOf 1 k a b c) n 9 (unknown-refused w (recordOf 1 k a b c) (r .table) (ready-formed r)
-      (holds (sym e)))
+  way-no-property e = stepped-refused w (recordOf 1 k a b c) n 9 (property-refused w (recordOf 1 k a b c) (r .table)
+      (ready-formed r) (holds (sym e)))
+
+  pub way-no-class : false ≡ unknownProperty (factsOf w) (ticketOf 1 k a b c)
+      → true ≡ unknownClass (factsOf w) (ticketOf 1 k a b c) → Stepped n (Refused 16) w (step product w (recordOf 1 k a b c))
+  way-no-class p e = stepped-refused w (recordOf 1 k a b c) n 16 (class-refused w (recordOf 1 k a b c) (r .table) (ready-formed r)
+      (fails (sym p)) (holds (sym e)))
 
   pub way-there : true ≡ all (has (factsOf w)) (asked (ticketOf 1 k a b c))
       → Stepped n (Facts n) w (step product w (recordOf 1 k a b c))
@@ -77,10 +93,10 @@ module _ {w : List ℕ} {n k a b c : ℕ} (r : Ready w n 1 k a b c) where
       (repeated-insertion product product-sound w (recordOf 1 k a b c) (r .table) tt (ready-formed r)
       (tests-all-has (factsOf w) (asked (ticketOf 1 k a b c)) .sound (holds (sym e))))
 
-  pub way-clash : false ≡ unknownProperty (factsOf w) (ticketOf 1 k a b c) → true ≡ lookupClash (factsOf w) (ticketOf 1 k a b c)
+  pub way-clash : Known (factsOf w) (ticketOf 1 k a b c) → true ≡ lookupClash (factsOf w) (ticketOf 1 k a b c)
       → Stepped n (Refused 10) w (step product w (recordOf 1 k a b c))
   way-clash u e = stepped-refused w (recordOf 1 k a b c) n 10 (clash-refused w (recordOf 1 k a b c) (r .table) (ready-formed r) tt
-      (fails (sym u)) (holds (sym e)))
+      u (holds (sym e)))
 
 -- The words of the graph that an insertion leaves.
 abbrev pub grownWords : List ℕ → ℕ → ℕ → ℕ → ℕ → List ℕ
@@ -89,14 +105,14 @@ grownWords w k a b c = words product (insertion (product .top) (factsOf w) (aske
 module _ {w : List ℕ} {n k a b c : ℕ} (p : Possible w n k a b c) where
   way-too-many : length w < length (grownWords w k a b c) → Stepped n (Refused 11) w (step product w (recordOf 1 k a b c))
   way-too-many h = stepped-refused w (recordOf 1 k a b c) n 11 (too-many-refused w (recordOf 1 k a b c) (p .ready .table)
-      (ready-formed (p .ready)) tt (fails (p .known)) (fails (p .free)) h)
+      (ready-formed (p .ready)) tt (p .known) (fails (p .free)) h)
 
   way-grown : (x : List ℕ) (m : ℕ) → x ≡ padded (length w) (grownWords w k a b c) → m ≡ length (grownWords w k a b c)
       → length x ≡ length w
       → Stepped n (Facts m) x (step product w (recordOf 1 k a b c))
   way-grown x m e d l = subst (λ y. Stepped n (Facts m) y (step product w (recordOf 1 k a b c))) (sym e)
       (stepped-inserted w (recordOf 1 k a b c) (p .ready .table) n (p .ready .size) (ready-formed (p .ready)) m tt
-      (fails (p .known)) (fails (p .free)) d (omega (arith, d, padded-room (grownWords w k a b c) x (length w) e l)))
+      (p .known) (fails (p .free)) d (omega (arith, d, padded-room (grownWords w k a b c) x (length w) e l)))
 
 -- The words of the graph that a deletion leaves.
 abbrev pub leftWords : List ℕ → ℕ → ℕ → ℕ → ℕ → List ℕ
@@ -123,8 +139,8 @@ possible-insertable {w} {n} {k} {a} {b} {c} p =
       insert = tt;
       kinds = known-kind ticket (f .kind);
       ids = f .ids;
-      uses = uses-known (factsOf w) ticket tt (fails (p .known));
-      free = λ h. fails (p .free) (subst T (sym (looked-clash w bytes (r .table) f tt (fails (p .known))
+      provided = known-provided (factsOf w) ticket tt (p .known);
+      free = λ h. fails (p .free) (subst T (sym (looked-clash w bytes (r .table) f tt (p .known)
           ∙ ap clashes (new-is product product-sound w bytes (r .table) tt))) h);
     }
 

@@ -9,6 +9,7 @@ use Rattle.rdfs.specs.Tickets as defs
 use Rattle.rdfs.specs.Words.{filled}
 use Rattle.rdfs.specs.Lookups.{lookupClash}
 use Rattle.rdfs.specs.Register.{Table}
+use Rattle.rdfs.specs.Promises.{Known}
 use Rattle.table.specs.Counted.{factsOf}
 use Rattle.ticket_form.specs.TicketForm.{formRefusal}
 
@@ -21,5 +22,5 @@ pub record Ready (words : List ℕ) (count operation k a b c : ℕ) : Type 0 whe
 -- An insertion past refusal 10.
 pub record Possible (words : List ℕ) (count k a b c : ℕ) : Type 0 where
   pub ready : Ready words count 1 k a b c
-  pub known : defs.unknownProperty (factsOf words) (defs.ticketOf 1 k a b c) ≡ false
+  pub known : Known (factsOf words) (defs.ticketOf 1 k a b c)
   pub free : lookupClash (factsOf words) (defs.ticketOf 1 k a b c) ≡ false

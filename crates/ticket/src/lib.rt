@@ -1,13 +1,13 @@
-// One ticket on a lent table: refusals 1 to 11, the insertion or the deletion.
+// One ticket on a lent table: its refusals in order, the insertion or the deletion.
 //
 // The public call is `apply`. It has no `requires`: it says, for all words of a table and all bytes of a
 // ticket, the answer, both counts and every word afterwards; they are those of the plain register. The other
 // functions serve the crates above: `apply_checked` is the same on a table known to be consistent, and
 // `apply_ticket` on a ticket by its fields. The crate assumes nothing.
 //
-// A ticket that is refused with 4 to 10, or that changes nothing, costs a few lookups: no copy and no pass
-// over the table, but for the check in `apply`. An insertion that puts something in first saves the words of
-// the table's facts, 8 KB of stack, and puts them back if the new graph does not fit, 11.
+// A ticket that is refused before 11, or that changes nothing, costs a few lookups: no copy and no pass over
+// the table, but for the check in `apply`. An insertion that puts something in first saves the words of the
+// table's facts, 8 KB of stack, and puts them back if the new graph does not fit, 11.
 ghost use Rattle.rdfs.specs.Numbers.{product};
 ghost use Rattle.rdfs.specs.Register.{step, Table};
 ghost use Rattle.ticket_form.specs.TicketForm.{bytesOf};

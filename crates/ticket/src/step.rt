@@ -15,11 +15,13 @@ use insertion::grow;
 use table::CLASHING;
 use table::MOST;
 use table::TOO_MANY;
+use table::UNKNOWN_CLASS;
 use table::UNKNOWN_PROPERTY;
 use table::Word;
 use table::clear_from;
 use table::copy_words;
 use ticket_form::has_asked;
+use ticket_form::is_unknown_class;
 use ticket_form::is_unknown_property;
 
 // What an inner step answers.
@@ -75,20 +77,24 @@ fn insert_possible(table: &mut [Word], count: usize, k: Word, a: Word, b: Word, 
     insert_saving(table, &mut saved[..count], count, k, a, b, c)
 }
 
-// An insertion. One that is refused with 9 or 10, or whose asked facts are all there, costs a few lookups and
-// saves nothing.
+// An insertion. One that is refused with 9, 16 or 10, or whose asked facts are all there, costs a few lookups
+// and saves nothing.
 pub fn run_insertion(table: &mut [Word], count: usize, k: Word, a: Word, b: Word, c: Word) -> Step
     requires ticket { ⌜ Ready (now table) count 1 k a b c ⌝ }
     ensures answer { λ r. ⌜ Stepped count r (now (table .exit)) (step product (now (table .entry))
         (recordOf 1 k a b c)) ⌝ }
 {
-    let unknown = is_unknown_property(table, count, k, a, b, c);
-    if unknown {
+    let no_property = is_unknown_property(table, count, k, a, b, c);
+    if no_property {
         return Step::Refused(UNKNOWN_PROPERTY);
     }
     let there = has_asked(table, count, k, a, b, c);
     if there {
         return Step::Facts(count);
+    }
+    let no_class = is_unknown_class(table, count, k, a, b, c);
+    if no_class {
+        return Step::Refused(UNKNOWN_CLASS);
     }
     let clash = clashes(table, count, k, a, b, c);
     if clash {

@@ -38,7 +38,7 @@ pub record Passes (t : Ticket) : Type 0 where
 pub form-passes : (t : Ticket) → formRefusal t ≡ 0 → Passes t
 form-passes t e =
     let past = none-holds (formTests product t) tt e in
-    record { operation = past 0; kind = past 1; ids = past 2; free = past 3 }
+    record { operation = past 5; kind = past 6; ids = past 7; free = past 8 }
 
 tests-less : (x y : ℕ) → Tests (ltb x y) (x < y)
 tests-less x y = record { sound = ltb→lt x y; complete = lt→ltb x y }

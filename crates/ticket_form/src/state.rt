@@ -1,12 +1,14 @@
-// What an insertion finds in a table: refusal 9, and whether its asked facts are all there.
+// What an insertion finds in a table: refusals 9 and 16, and whether its asked facts are all there.
 ghost use mathlib.Core.Path.{_≡_};
 ghost use mathlib.Core.Bool.{not, _||_};
 ghost use Rattle.rdfs.specs.Lists.{all};
 ghost use Rattle.rdfs.specs.Facts.{pr, has};
-ghost use Rattle.rdfs.specs.Tickets.{asked, unknownProperty, ticketOf};
+ghost use Rattle.rdfs.specs.Tickets.{asked, unknownProperty, unknownClass, ticketOf};
 ghost use Rattle.table.specs.Counted.{Counted, Id, factsOf};
 ghost use Rattle.ticket_form.specs.TicketForm.{Asked};
 use clash::has_property;
+use table::CLASS;
+use table::MEMBER;
 use table::PROPERTY;
 use table::SUBPROPERTY;
 use table::VALUE;
@@ -47,6 +49,18 @@ pub fn is_unknown_property(table: &[Word], count: usize, k: Word, a: Word, b: Wo
         VALUE => lacks_property(table, count, c),
         _ => false,
     }
+}
+
+// Refusal 16: an insertion of CI with b not a class of the table.
+pub fn is_unknown_class(table: &[Word], count: usize, k: Word, a: Word, b: Word, c: Word) -> bool
+    requires asked { ⌜ Asked (now table) count 1 k a b c ⌝ }
+    ensures answer { λ r. ⌜ r ≡ unknownClass (factsOf (now (table .entry))) (ticketOf 1 k a b c) ⌝ }
+{
+    if k != MEMBER {
+        return false;
+    }
+    let there = has_fact(table, count, CLASS, b, 0, 0);
+    !there
 }
 
 // The asked facts of an insertion are all there.

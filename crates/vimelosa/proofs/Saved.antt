@@ -3,19 +3,19 @@
 use Prim.Native.Nat.{ℕ, _≤_, _<_}
 use mathlib.Core.Path.{_≡_, refl, sym, ap, subst, _∙_}
 use mathlib.Core.Bool.{Bool, true, false, not, _||_, cond}
-use mathlib.Core.List.{List, _++_}
+use mathlib.Core.List.{List, [], _∷_, _++_}
 use native.Mathlib.Omega.{arith}
 use native.Mathlib.Decide.{ℕ-discrete}
-use lib.Dec.{eqb, ltb, leb, lit<}
+use lib.Dec.{T, eqb, ltb, leb, lit<, ltb→lt}
 use lib.ListN.{length, take, drop}
 use Rattle.rdfs.specs.Numbers.{product}
-use Rattle.rdfs.specs.Lists.{member}
-use Rattle.rdfs.specs.Words.{filled, facts, words}
-use Rattle.rdfs.specs.Tickets.{Ticket, decoded, badLength, badOperation, badKind, badIds, guarded, unknownProperty, clashing}
-use Rattle.rdfs.specs.Refusals.{orElse, badSize, badLayout, inconsistent, tableRefusal, tooMany}
+use Rattle.rdfs.specs.Lists.{member, all}
+use Rattle.rdfs.specs.Words.{filled, words}
+use Rattle.rdfs.specs.Refusals.{orElse, firstOr, badSize, inconsistent, tableTests, tableRefusal}
 use Rattle.rdfs.specs.Register.{Answer, Table}
 use Rattle.rdfs.proofs.lists.Filters.{filter-split}
-use Rattle.rdfs.proofs.tickets.TicketRefusals.{new, passed}
+use Rattle.rdfs.proofs.lists.Tests.{and-both}
+use Rattle.rdfs.proofs.tickets.TicketRefusals.{new, tests, passed}
 use Rattle.rdfs.proofs.tickets.Steps.{table-passes, step-number, accepted-leaves, room-fits, step-length}
 use Rattle.table.proofs.Filled.{filled-within}
 use Rattle.contents.specs.ImageForm.{form}
@@ -36,6 +36,14 @@ pub else-small : (b : Bool) (n rest : ℕ) → n < sixteenBits → rest < sixtee
 else-small true n rest p q = p
 else-small false n rest p q = q
 
+-- So does the first refusal of a list, if all of them do and what comes after has.
+first-small : (l : List (ℕ × Bool)) (rest : ℕ) → T (all (λ r. ltb (r .0) sixteenBits) l) → rest < sixteenBits
+    → firstOr l rest < sixteenBits
+first-small [] rest s h = h
+first-small (r ∷ l) rest s h =
+    let q = and-both (ltb (r .0) sixteenBits) (all (λ r. ltb (r .0) sixteenBits) l) s in
+    else-small (r .1) (r .0) (firstOr l rest) (ltb→lt (r .0) sixteenBits (q .0)) (first-small l rest (q .1) h)
+
 -- So does a refusal of reading.
 pub read-small : (image : List ℕ) → readAnswer room image < sixteenBits
 read-small image =
@@ -45,8 +53,7 @@ read-small image =
 
 -- So does a refusal of a table, if what comes after has.
 pub table-small : (t : List ℕ) (rest : ℕ) → rest < sixteenBits → tableRefusal product t rest < sixteenBits
-table-small t rest h = else-small (badSize product t) 1 _ (lit< tt) (else-small (badLayout product t) 2 _ (lit< tt)
-    (else-small (inconsistent product t) 3 rest (lit< tt) h))
+table-small t rest h = first-small (tableTests product t) rest tt h
 
 -- An answer of 0 is not a refusal's.
 pub accepted-passes : (n rest : ℕ) → n < sixteenBits → answerIn (refusedElse n rest) ≡ 0 → (n ≡ 0) × (refusedElse n rest ≡ rest)
@@ -100,14 +107,8 @@ module _ (image ticket output : List ℕ) where
 
   pub number-small : s .number < sixteenBits
   unfolding applied
-  number-small =
-      let t : Ticket = decoded ticket in
-      subst (λ n. n < sixteenBits) (sym (step-number product w ticket)) (table-small w _
-      (else-small (badLength ticket) 4 _ (lit< tt) (else-small (badOperation t) 5 _ (lit< tt) (else-small (badKind t) 6 _
-      (lit< tt) (else-small (badIds (product .top) t) 7 _ (lit< tt)
-      (else-small (guarded t) 8 _ (lit< tt) (else-small (unknownProperty (facts product w) t) 9 _ (lit< tt)
-      (else-small (clashing (new product w ticket) t) 10 _ (lit< tt)
-      (else-small (tooMany product w (new product w ticket)) 11 0 (lit< tt) (lit< tt))))))))))
+  number-small = subst (λ n. n < sixteenBits) (sym (step-number product w ticket))
+      (first-small (tests product w ticket) 0 tt (lit< tt))
 
   write-small : writeAnswer (s .table) output < sixteenBits
   write-small =

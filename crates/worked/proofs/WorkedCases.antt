@@ -73,6 +73,17 @@ chainCut =
     1 ∷ 6 ∷ 10 ∷ 13 ∷ 0 ∷
     2 ∷ 6 ∷ 11 ∷ 13 ∷ 0 ∷ []
 
+-- A member waits for its class, the upper one of a link, the domain of a property; Resource stands at the start.
+abbrev membersWait : List ℕ
+membersWait =
+    1 ∷ 9 ∷ 4 ∷ 3 ∷ 0 ∷
+    1 ∷ 5 ∷ 2 ∷ 3 ∷ 0 ∷
+    1 ∷ 9 ∷ 4 ∷ 3 ∷ 0 ∷
+    1 ∷ 9 ∷ 7 ∷ 6 ∷ 0 ∷
+    1 ∷ 2 ∷ 5 ∷ 6 ∷ 1 ∷
+    1 ∷ 9 ∷ 7 ∷ 6 ∷ 0 ∷
+    1 ∷ 9 ∷ 7 ∷ 0 ∷ 0 ∷ []
+
 -- The number, added and removed of one ticket on the full table of the figure.
 abbrev onFigure : List ℕ → List ℕ
 onFigure t = let a : Answer = step product figure t in a .number ∷ a .added ∷ a .removed ∷ []
@@ -93,13 +104,20 @@ single =
     (1 ∷ 9 ∷ 22 ∷ 3 ∷ 0 ∷ []) ∷  -- a repeat on the full table
     (1 ∷ 9 ∷ 4 ∷ 4 ∷ 0 ∷ []) ∷  -- a clash on the full table
     (1 ∷ 1 ∷ 9 ∷ 0 ∷ 0 ∷ []) ∷  -- two facts more on the full table
+    (1 ∷ 9 ∷ 22 ∷ 9 ∷ 0 ∷ []) ∷  -- a member of an id without a role, on the full table
+    (1 ∷ 9 ∷ 22 ∷ 10 ∷ 0 ∷ []) ∷  -- of a property
+    (1 ∷ 9 ∷ 4 ∷ 23 ∷ 0 ∷ []) ∷  -- of an individual, and a class as the member
+    (1 ∷ 9 ∷ 9 ∷ 9 ∷ 0 ∷ []) ∷  -- of itself, unknown
+    (2 ∷ 9 ∷ 22 ∷ 9 ∷ 0 ∷ []) ∷  -- the first of these deleted
+    (1 ∷ 9 ∷ 22 ∷ 9 ∷ 5 ∷ []) ∷  -- and with an unused byte that is not 0
     []
 
 abbrev answers : List (List ℕ)
 answers =
     (0 ∷ 0 ∷ 10 ∷ []) ∷ (0 ∷ 0 ∷ 9 ∷ []) ∷ (0 ∷ 0 ∷ 5 ∷ []) ∷ (0 ∷ 0 ∷ 6 ∷ []) ∷ (0 ∷ 0 ∷ 3 ∷ []) ∷ (0 ∷ 0 ∷ 2 ∷ []) ∷
     (0 ∷ 0 ∷ 1 ∷ []) ∷ (0 ∷ 0 ∷ 3 ∷ []) ∷ (0 ∷ 0 ∷ 5 ∷ []) ∷ (0 ∷ 0 ∷ 4 ∷ []) ∷ (0 ∷ 0 ∷ 2 ∷ []) ∷ (0 ∷ 0 ∷ 0 ∷ []) ∷
-    (10 ∷ 0 ∷ 0 ∷ []) ∷ (11 ∷ 0 ∷ 0 ∷ []) ∷ []
+    (10 ∷ 0 ∷ 0 ∷ []) ∷ (11 ∷ 0 ∷ 0 ∷ []) ∷ (16 ∷ 0 ∷ 0 ∷ []) ∷ (16 ∷ 0 ∷ 0 ∷ []) ∷ (16 ∷ 0 ∷ 0 ∷ []) ∷ (16 ∷ 0 ∷ 0 ∷ []) ∷
+    (0 ∷ 0 ∷ 0 ∷ []) ∷ (7 ∷ 0 ∷ 0 ∷ []) ∷ []
 
 pub worked :
     (register product (fresh product 33) treeFirst ≡ record {
@@ -121,7 +139,8 @@ pub worked :
     0x02020000 ∷ 0x02030000 ∷ 0x05040000 ∷ 0x05050000 ∷ 0x05050400 ∷ 0x05060000 ∷ 0x05070000 ∷ 0x05070600 ∷ 0x06030200 ∷
     0x07020400 ∷ 0x07030500 ∷ 0x08020600 ∷ 0x08030700 ∷ [])
     × (register product (fresh product 32) cycleThroughBoth .numbers ≡ 0 ∷ 0 ∷ 0 ∷ 0 ∷ 10 ∷ [])
+    × (register product (fresh product 32) membersWait .numbers ≡ 16 ∷ 0 ∷ 0 ∷ 16 ∷ 0 ∷ 0 ∷ 0 ∷ [])
     × (register product (fresh product 4) (1 ∷ 1 ∷ 2 ∷ 0 ∷ 0 ∷ 1 ∷ 1 ∷ 3 ∷ []) .numbers ≡ 0 ∷ 4 ∷ [])
 unfolding by18 by20 by22 by23 by24 by25 by26 by27 needs bars unequal existsFor consistent? closure insertion goes deletion step
     run register
-worked = (refl, refl, refl, refl, refl, refl, refl, refl, refl)
+worked = (refl, refl, refl, refl, refl, refl, refl, refl, refl, refl)

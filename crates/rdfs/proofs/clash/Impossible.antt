@@ -3,7 +3,7 @@ use Prim.Native.Nat.{ℕ}
 use mathlib.Core.Path.{_≡_, sym, subst, _∙_}
 use mathlib.Core.Logic.{inl, inr}
 use mathlib.Core.List.{[], _∷_}
-use Rattle.rdfs.specs.Facts.{Graph, cl, pr, ind, lit, csub, psub, dom, rng, ci, pi, graph, _⊑_}
+use Rattle.rdfs.specs.Facts.{Graph, cl, pr, ind, lit, csub, psub, dom, rng, pi, graph, _⊑_}
 use Rattle.rdfs.specs.Consistency.{Lawful}
 use Rattle.rdfs.specs.Tickets.{propertyFacts}
 use Rattle.rdfs.proofs.deletion.Between.{class-strict, property-strict, Strict}
@@ -12,17 +12,12 @@ use Rattle.rdfs.proofs.clash.OneRole.{RoleName, class, property, indivi
 use Rattle.rdfs.proofs.clash.Schema.{schema-of, root-highest, Beside, differ-le, beside-mark, beside-le, le-grows}
 use Rattle.rdfs.proofs.clash.Full.{values-typed}
 use Rattle.rdfs.proofs.clash.Possible.{more-held, one-held}
-use Rattle.rdfs.proofs.clash.LookupTests.{PropertyClash, ClassLinkClash, MemberClash, ValueClash, PropertyLinkClash}
+use Rattle.rdfs.proofs.clash.LookupTests.{PropertyClash, ClassLinkClash, ValueClash, PropertyLinkClash}
 
 -- G is the table's graph, H the other.
 module _ (G H : Graph) (g : Lawful G) (c : Lawful H) (sub : _⊑_ G H) where
   pub role-impossible : (r : RoleName) (x : ℕ) → H (is r x) → OtherRole G (roleKind r) x → ⊥
   role-impossible r x h o = o .1 (one-role H c x (o .0) r (sub (is (o .0) x) (o .2)) h)
-
-  pub member-impossible : (a b : ℕ) → H (ci a b) → MemberClash G a b → ⊥
-  member-impossible a b h (inl o) = role-impossible individual a (c .rule-11 a b h .0) o
-  member-impossible a b h (inr (inl o)) = role-impossible class b (c .rule-11 a b h .1) o
-  member-impossible a b h (inr (inr e)) = c .rule-5 b (c .rule-11 a b h .1) (subst (λ v. H (ind v)) e (c .rule-11 a b h .0))
 
   pub value-impossible : (a b p : ℕ) → G (pr p) → H (pi a b p) → ValueClash G a b p → ⊥
   value-impossible a b p known h (inl o) = role-impossible individual a (c .rule-12 a b p h .0) o

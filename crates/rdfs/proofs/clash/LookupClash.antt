@@ -7,7 +7,7 @@ use mathlib.Core.Logic.{inl, inr}
 use mathlib.Core.List.{List, [], _∷_}
 use lib.Dec.{T}
 use Rattle.rdfs.specs.Lists.{_∈_, here, there}
-use Rattle.rdfs.specs.Facts.{Fact, Graph, pr, csub, psub, rng, ci, pi, graph, _⊑_}
+use Rattle.rdfs.specs.Facts.{Fact, Graph, cl, pr, csub, psub, rng, ci, pi, graph, _⊑_}
 use Rattle.rdfs.specs.Consistency.{Lawful}
 use Rattle.rdfs.specs.Tickets.{Ticket, asked, propertyFacts, ticketOf}
 use Rattle.rdfs.specs.Lookups.{
@@ -17,12 +17,10 @@ use Rattle.rdfs.specs.Lookups.{
   propertyClash,
   classLinkClash,
   propertyLinkClash,
-  memberClash,
   valueClash,
   lookupClash,
 }
-use Rattle.rdfs.specs.Orders.{Uses}
-use Rattle.rdfs.specs.Promises.{Judged, Possible}
+use Rattle.rdfs.specs.Promises.{Provided, Judged, Possible}
 use Rattle.rdfs.proofs.lists.Tests.{Tests, differ, tests-decides}
 use Rattle.rdfs.proofs.words.FactLaws.{in-list, tests-all-has}
 use Rattle.rdfs.proofs.tickets.TicketTests.{by-kind, given-ids}
@@ -32,14 +30,12 @@ use Rattle.rdfs.proofs.clash.LookupTests.{
   tests-property-clash,
   tests-class-link-clash,
   tests-property-link-clash,
-  tests-member-clash,
   tests-value-clash,
 }
 use Rattle.rdfs.proofs.clash.Possible.{role-possible, member-possible, value-possible, property-possible}
 use Rattle.rdfs.proofs.clash.PossibleLinks.{class-link-possible, property-link-possible}
 use Rattle.rdfs.proofs.clash.Impossible.{
   role-impossible,
-  member-impossible,
   value-impossible,
   property-impossible,
   class-link-impossible,
@@ -62,9 +58,10 @@ module _ (K : List Fact) (c : Lawful (graph K)) where
   role-exact r a n = exact-of K (is r a ∷ []) (otherRole K (roleKind r) a) _ (tests-other-role K (roleKind r) a)
       (λ H d k w. role-impossible (graph K) H c d k r a (w _ (here refl))) (role-possible (graph K) c r a n)
 
-  member-exact : (a b : ℕ) → Exact K (ci a b ∷ []) (memberClash K a b)
-  member-exact a b = exact-of K (ci a b ∷ []) (memberClash K a b) _ (tests-member-clash K a b)
-      (λ H d k w. member-impossible (graph K) H c d k a b (w _ (here refl))) (member-possible (graph K) c a b)
+  member-exact : (a b : ℕ) → cl b ∈ K → Exact K (ci a b ∷ []) (otherRole K 3 a)
+  member-exact a b h = exact-of K (ci a b ∷ []) (otherRole K 3 a) _ (tests-other-role K 3 a)
+      (λ H d k w. role-impossible (graph K) H c d k individual a (d .rule-11 a b (w _ (here refl)) .0))
+      (member-possible (graph K) c a b h)
 
   value-exact : (a b z : ℕ) → pr z ∈ K → Exact K (pi a b z ∷ []) (valueClash K a b z)
   value-exact a b z h = exact-of K (pi a b z ∷ []) (valueClash K a b z) _ (tests-value-clash K a b z)
@@ -102,9 +99,10 @@ module _ (top : ℕ) (K : List Fact) (t : Ticket) (j : Judged top K t) where
       (λ u. role-exact K c individual a (differ tt))
       (λ u. role-exact K c literal a (differ tt))
       (λ u. class-link-exact K c a b)
-      (λ u. property-link-exact K c a b (u a (inl (refl, inl refl))) (u b (inl (refl, inr refl))))
-      (λ u. member-exact K c a b)
-      (λ u. value-exact K c a b z (u z (inr (refl, refl)))) (j .uses)
+      (λ u. property-link-exact K c a b (u .properties a (inl (refl, inl refl)))
+      (u .properties b (inl (refl, inr refl))))
+      (λ u. member-exact K c a b (u .classes b (j .insert, refl, refl)))
+      (λ u. value-exact K c a b z (u .properties z (inr (refl, refl)))) (j .provided)
     where
       a : ℕ
       a = t .a
@@ -120,7 +118,7 @@ module _ (top : ℕ) (K : List Fact) (t : Ticket) (j : Judged top K t) where
 
       Goal : ℕ → Type 1
       Goal k = let u : Ticket = ticketOf (t .operation) k a b z in
-          ((p : ℕ) → Uses u p → pr p ∈ K) → Exact K (asked u) (lookupClash K u)
+          Provided K u → Exact K (asked u) (lookupClash K u)
 
 -- A clash that the lookups find is real.
 pub lookup-clash-sound : (top : ℕ) (K : List Fact) (t : Ticket) → Judged top K t → T (lookupClash K t) → (H : Graph)

@@ -13,7 +13,6 @@ use Rattle.rdfs.specs.Lookups.{
   propertyClash,
   classLinkClash,
   propertyLinkClash,
-  memberClash,
   valueClash,
 }
 use Rattle.rdfs.specs.Tickets.{propertyFacts, ticketOf}
@@ -32,9 +31,6 @@ PropertyClash G a b c = (_⊑_ (graph (propertyFacts a b c)) G → ⊥) × NewPr
 
 abbrev pub ClassLinkClash : Graph → ℕ → ℕ → Type 0
 ClassLinkClash G a b = OtherRole G 1 a ⊎ (OtherRole G 1 b ⊎ ((a ≡ b) ⊎ ((a ≡ 0) ⊎ G (csub b a))))
-
-abbrev pub MemberClash : Graph → ℕ → ℕ → Type 0
-MemberClash G a b = OtherRole G 3 a ⊎ (OtherRole G 1 b ⊎ (a ≡ b))
 
 abbrev pub ValueClash : Graph → ℕ → ℕ → ℕ → Type 0
 ValueClash G a b c = OtherRole G 3 a ⊎ ((G (rng c 1) × (OtherRole G 4 b ⊎ (a ≡ b))) ⊎ ((G (rng c 1) → ⊥) × OtherRole G 3 b))
@@ -84,9 +80,6 @@ module _ (K : List Fact) where
       let rb : ℕ = rangeOf K b in
       tests-or (tests-eq a b) (tests-or (tests-has K (psub b a)) (tests-or (tests-mixed ra rb)
       (tests-or (tests-backwards da db) (tests-or (tests-backwards ra rb) (tests-cycle da db ra rb)))))
-
-  pub tests-member-clash : (a b : ℕ) → Tests (memberClash K a b) (MemberClash (graph K) a b)
-  tests-member-clash a b = tests-or (tests-other-role K 3 a) (tests-or (tests-other-role K 1 b) (tests-eq a b))
 
   pub tests-value-clash : (a b c : ℕ) → Tests (valueClash K a b c) (ValueClash (graph K) a b c)
   tests-value-clash a b c = tests-or (tests-other-role K 3 a)

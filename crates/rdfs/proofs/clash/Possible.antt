@@ -4,7 +4,7 @@ use Prim.Native.Nat.{ℕ}
 use mathlib.Core.Path.{_≡_, refl, sym, subst}
 use mathlib.Core.Logic.{_⊎_, inl, inr, ⊎-elim}
 use mathlib.Core.List.{List, [], _∷_}
-use Rattle.rdfs.specs.Facts.{Fact, Graph, pr, dom, rng, ci, pi, graph, _⊑_}
+use Rattle.rdfs.specs.Facts.{Fact, Graph, cl, pr, dom, rng, ci, pi, graph, _⊑_}
 use Rattle.rdfs.specs.Consistency.{Lawful}
 use Rattle.rdfs.specs.Promises.{Possible}
 use Rattle.rdfs.specs.Tickets.{propertyFacts}
@@ -15,7 +15,7 @@ use Rattle.rdfs.proofs.clash.Schema.{Schema, schema-of}
 use Rattle.rdfs.proofs.clash.Full.{Typed, values-typed, Full, full-lawful, full-holds}
 use Rattle.rdfs.proofs.clash.MoreRoles.{More, more-holds, Apart, Fits, more-schema, typed-more}
 use Rattle.rdfs.proofs.clash.Wanted.{NoRole, Want, WantTwo, wants-first, wants-second, none-apart, want-apart, two-fit}
-use Rattle.rdfs.proofs.clash.LookupTests.{NewPropertyClash, PropertyClash, MemberClash, ValueClash}
+use Rattle.rdfs.proofs.clash.LookupTests.{NewPropertyClash, PropertyClash, ValueClash}
 
 pub none-held : (H : Graph) → _⊑_ (graph []) H
 none-held H f m = absurd (none-in m)
@@ -46,13 +46,18 @@ module _ (G : Graph) (c : Lawful G) where
   by-roles A New d r f asked = by-schema A (More G New d r) (more-schema G New d r (schema-of G c) f) (more-holds G New d r)
       (typed-more G New d r (schema-of G c) f) asked
 
+  -- One id gets the role of kind k, which is none of a property's.
+  by-role : (k a : ℕ) → (2 ≡ k → ⊥) → (OtherRole G k a → ⊥) → (f : Fact)
+      → Full (More G (WantTwo k a k a) 0 0) (Values G) f → Possible G (graph (f ∷ []))
+  by-role k a not-property free f held = by-roles (graph (f ∷ [])) (WantTwo k a k a) 0 0
+      (two-fit G k a k a free free (λ e. refl) not-property not-property)
+      (one-held (Full (More G (WantTwo k a k a) 0 0) (Values G)) f held)
+
   -- Cl, Ind and Lit.
   pub role-possible : (r : RoleName) (a : ℕ) → (2 ≡ roleKind r → ⊥) → (OtherRole G (roleKind r) a → ⊥)
       → Possible G (graph (is r a ∷ []))
-  role-possible r a not-property free =
-      by-roles (graph (is r a ∷ [])) New 0 0 (two-fit G (roleKind r) a (roleKind r) a free free (λ e. refl) not-property
-      not-property)
-      (one-held (Full (More G New 0 0) (Values G)) (is r a) (held r (wants-first (roleKind r) a (roleKind r) a)))
+  role-possible r a not-property free = by-role (roleKind r) a not-property free (is r a)
+      (held r (wants-first (roleKind r) a (roleKind r) a))
     where
       New : ℕ → ℕ → Type 0
       New = WantTwo (roleKind r) a (roleKind r) a
@@ -63,12 +68,9 @@ module _ (G : Graph) (c : Lawful G) where
       held individual n = inr n
       held literal n = inr n
 
-  pub member-possible : (a b : ℕ) → (MemberClash G a b → ⊥) → Possible G (graph (ci a b ∷ []))
-  member-possible a b n =
-      let New : ℕ → ℕ → Type 0 = WantTwo 3 a 1 b in
-      by-roles (graph (ci a b ∷ [])) New 0 0
-      (two-fit G 3 a 1 b (λ o. n (inl o)) (λ o. n (inr (inl o))) (λ e. absurd (n (inr (inr e)))) (differ tt) (differ tt))
-      (one-held (Full (More G New 0 0) (Values G)) (ci a b) (inr (wants-first 3 a 1 b), inr (wants-second 3 a 1 b)))
+  -- CI with a class of the table.
+  pub member-possible : (a b : ℕ) → G (cl b) → (OtherRole G 3 a → ⊥) → Possible G (graph (ci a b ∷ []))
+  member-possible a b known free = by-role 3 a (differ tt) free (ci a b) (inr (wants-first 3 a 3 a), inl known)
 
   -- The object b of a new value gets the role of kind l.
   by-value : (a b p l : ℕ) → Fits G (WantTwo 3 a l b) 0 0 → Typed (More G (WantTwo 3 a l b) 0 0) a b p

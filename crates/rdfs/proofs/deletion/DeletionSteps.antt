@@ -2,7 +2,7 @@
 -- nothing. Assumes nothing.
 use Prim.Native.Nat.{ℕ, _≤_}
 use mathlib.Core.Path.{_≡_, refl, sym, ap, subst, _∙_}
-use mathlib.Core.Bool.{Bool, true, false, _||_}
+use mathlib.Core.Bool.{Bool, true, false, _&&_, _||_}
 use mathlib.Core.Logic.{inl}
 use mathlib.Core.List.{List, map}
 use native.Mathlib.Omega.{arith}
@@ -84,13 +84,17 @@ module _ (N : Numbers) (s : Sound N) (w bytes : List ℕ) (t : Table N w) (d : T
           (sort-ascending (map (word (N .base)) (new N w bytes))) (words-sub N (new N w bytes) K part),
     )
 
+    -- Nothing that is asked of insertions alone holds.
+    no-insertion : (x : Bool) → T (inserts (decoded bytes) && x) → ⊥
+    no-insertion x h = not-both (decoded bytes) d (and-both (inserts (decoded bytes)) x h .0)
+
     -- Past refusal 8 a deletion is never refused.
     pub deletion-accepted : step N w bytes .number ≡ 0
     deletion-accepted = step-number N w bytes ∙ pass N w bytes (record {
       sane = table-sane N w t;
       formed = f;
-      known = λ h. not-both (decoded bytes) d (and-both (inserts (decoded bytes)) _ h .0);
-      possible = λ h. not-both (decoded bytes) d (and-both (inserts (decoded bytes)) (clashes (new N w bytes)) h .0);
+      known = record { property = no-insertion _; class = no-insertion _ };
+      possible = no-insertion (clashes (new N w bytes));
       room = λ h. omega (arith, ltb→lt (length w) (length (words N (new N w bytes))) h, room);
     })
 

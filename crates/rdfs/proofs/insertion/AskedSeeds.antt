@@ -1,4 +1,4 @@
--- What an insertion ticket asks for, on a consistent table that has the properties it uses, gives `Seeds`. Assumes nothing.
+-- What an insertion ticket asks for, on a consistent table that has what it uses, gives `Seeds`. Assumes nothing.
 use Prim.Native.Nat.{ℕ}
 use mathlib.Core.Path.{_≡_, refl, sym, ap, _∙_}
 use mathlib.Core.Logic.{_⊎_, inl, inr, ⊎-elim}
@@ -10,7 +10,7 @@ use Rattle.rdfs.specs.Facts.{Fact, cl, pr, ind, lit, csub, psub, dom, rn
 use Rattle.rdfs.specs.Consistency.{Lawful}
 use Rattle.rdfs.specs.Insertion.{addAll}
 use Rattle.rdfs.specs.Tickets.{Ticket, asked, ticketOf}
-use Rattle.rdfs.specs.Orders.{Uses}
+use Rattle.rdfs.specs.Promises.{Provided}
 use Rattle.rdfs.proofs.lists.ListLaws.{in-cons, in-one}
 use Rattle.rdfs.proofs.insertion.Closure.{in-addAll, addAll-keeps, addAll-has}
 use Rattle.rdfs.proofs.insertion.Seeds.{Seeds}
@@ -77,22 +77,21 @@ property-fits K a b c = record {
     out k f q n h = n (⊎-elim (λ e. inl (sym q ∙ ap kind e))
         (λ m. inr (⊎-elim (λ e. inl (sym q ∙ ap kind e)) (λ o. inr (sym q ∙ ap kind (in-one o))) (in-cons m))) (in-cons h))
 
-asked-fits : (K : List Fact) (o k a b c : ℕ) → k ∈ ticketKinds → ((p : ℕ) → Uses (ticketOf o k a b c) p → pr p ∈ K)
+asked-fits : (K : List Fact) (o k a b c : ℕ) → k ∈ ticketKinds → Provided K (ticketOf o k a b c)
     → Fits K (asked (ticketOf o k a b c))
-asked-fits K o k a b c h = by-kind (λ k. ((p : ℕ) → Uses (ticketOf o k a b c) p → pr p ∈ K) → Fits K (asked (ticketOf o k a b c)))
-    k h
+asked-fits K o k a b c h = by-kind (λ k. Provided K (ticketOf o k a b c) → Fits K (asked (ticketOf o k a b c))) k h
     (λ u. quiet-fits K (cl a) (omega arith) (omega arith) (omega arith) (omega arith) (omega arith))
     (λ u. property-fits K a b c)
     (λ u. quiet-fits K (ind a) (omega arith) (omega arith) (omega arith) (omega arith) (omega arith))
     (λ u. quiet-fits K (lit a) (omega arith) (omega arith) (omega arith) (omega arith) (omega arith))
     (λ u. quiet-fits K (csub a b) (omega arith) (omega arith) (omega arith) (omega arith) (omega arith))
     (λ u. one-fits K (psub a b) (omega arith) (omega arith) (omega arith)
-    (λ x y e. (u x (inl (refl, inl (ap first e))), u y (inl (refl, inr (ap second e)))))
+    (λ x y e. (u .properties x (inl (refl, inl (ap first e))), u .properties y (inl (refl, inr (ap second e)))))
     (λ x y z e. absurd (omega (arith, ap kind e))))
     (λ u. quiet-fits K (ci a b) (omega arith) (omega arith) (omega arith) (omega arith) (omega arith))
     (λ u. one-fits K (pi a b c) (omega arith) (omega arith) (omega arith)
-    (λ x y e. absurd (omega (arith, ap kind e))) (λ x y z e. u z (inr (refl, ap third e))))
+    (λ x y e. absurd (omega (arith, ap kind e))) (λ x y z e. u .properties z (inr (refl, ap third e))))
 
-pub asked-seeds : (K : List Fact) (t : Ticket) → Lawful (graph K) → t .kind ∈ ticketKinds → ((p : ℕ) → Uses t p → pr p ∈ K)
+pub asked-seeds : (K : List Fact) (t : Ticket) → Lawful (graph K) → t .kind ∈ ticketKinds → Provided K t
     → Seeds (addAll K (asked t))
 asked-seeds K t c h u = seeds K (asked t) c (asked-fits K (t .operation) (t .kind) (t .a) (t .b) (t .c) h u)

@@ -15,10 +15,10 @@ use Rattle.rdfs.specs.Words.{word, filled, facts, words, padded}
 use Rattle.rdfs.specs.Clashes.{clashes}
 use Rattle.rdfs.specs.Insertion.{insertion}
 use Rattle.rdfs.specs.Deletion.{deletion}
-use Rattle.rdfs.specs.Tickets.{decoded, inserts, asked, named, unknownProperty}
-use Rattle.rdfs.specs.Refusals.{here, later}
+use Rattle.rdfs.specs.Tickets.{decoded, inserts, asked, named}
+use Rattle.rdfs.specs.Refusals.{here}
 use Rattle.rdfs.specs.Register.{step, Table}
-use Rattle.rdfs.specs.Promises.{Formed, Possible, PossibleUpTo}
+use Rattle.rdfs.specs.Promises.{Formed, Known, Possible, PossibleUpTo}
 use Rattle.rdfs.proofs.lists.Tests.{and-both, both-and}
 use Rattle.rdfs.proofs.consistency.LawfulParts.{All, lawful-same}
 use Rattle.rdfs.proofs.words.Allowed.{Allowed}
@@ -28,10 +28,10 @@ use Rattle.rdfs.proofs.lists.Counts.{besides-none}
 use Rattle.rdfs.proofs.lists.Sorted.{sort-ascending, sub-length}
 use Rattle.rdfs.proofs.lists.Filters.{filter-split}
 use Rattle.rdfs.proofs.insertion.InsertionSmallest.{insertion-smallest, insertion-clash, insertion-allowed}
-use Rattle.rdfs.proofs.tickets.TicketTests.{known-kind, uses-known, asked-allowed}
+use Rattle.rdfs.proofs.tickets.TicketTests.{known-kind, known-provided, asked-allowed}
 use Rattle.rdfs.proofs.insertion.AskedSeeds.{asked-seeds}
-use Rattle.rdfs.proofs.tickets.FirstTrue.{first-holds, none-before}
-use Rattle.rdfs.proofs.tickets.TicketRefusals.{new, tests, past-form, formed, Passed, passed}
+use Rattle.rdfs.proofs.tickets.FirstTrue.{precedes, first-holds, none-before}
+use Rattle.rdfs.proofs.tickets.TicketRefusals.{new, tests, past-known, formed, known, Passed, passed}
 use Rattle.rdfs.proofs.tickets.Steps.{table-sane, table-allowed, step-number, accepted-leaves, left-table, room-fits}
 
 -- Two graphs with the same facts are the smallest alike.
@@ -70,26 +70,26 @@ module _ (N : Numbers) (s : Sound N) (w bytes : List ℕ) (t : Table N w) (i : T
     new-allowed = insertion-allowed (N .top) K ask (table-allowed N s w t) ask-allowed
 
     -- without a clash, the insertion is the smallest
-    free-smallest : (T (unknownProperty K (decoded bytes)) → ⊥) → (T (clashes inserted) → ⊥)
+    free-smallest : Known K (decoded bytes) → (T (clashes inserted) → ⊥)
         → Smallest (graph K) (graph ask) (graph inserted)
     free-smallest u free = insertion-smallest (N .top) K ask (table-allowed N s w t) ask-allowed
-        (asked-seeds K (decoded bytes) (t .consistent) (known-kind (decoded bytes) (f .kind)) (uses-known K (decoded bytes) i u))
-        free
+        (asked-seeds K (decoded bytes) (t .consistent) (known-kind (decoded bytes) (f .kind))
+        (known-provided K (decoded bytes) i u)) free
 
-    -- Past refusal 9, the answer is 10 exactly if no lawful graph holds the table and the asked facts.
+    -- Past refusals 9 and 16, the answer is 10 exactly if no lawful graph holds the table and the asked facts.
     pub refused-impossible : step N w bytes .number ≡ 10 → Possible (graph K) (graph ask) → ⊥
     refused-impossible e p =
-        let c = first-holds (tests N w bytes) tt 9 (omega arith) (sym (step-number N w bytes) ∙ e) in
+        let c = first-holds (tests N w bytes) tt 10 (omega arith) (sym (step-number N w bytes) ∙ e) in
         let q : T (clashes inserted) =
         subst (λ L. T (clashes L)) new-is (and-both (inserts (decoded bytes)) (clashes (new N w bytes)) c .1) in
         insertion-clash (N .top) K ask (table-allowed N s w t) ask-allowed q (p .0) (p .1) (p .2) (p .3)
 
-    pub impossible-refused : (T (unknownProperty K (decoded bytes)) → ⊥) → (step N w bytes .number ≡ 10 → ⊥)
+    pub impossible-refused : Known K (decoded bytes) → (step N w bytes .number ≡ 10 → ⊥)
         → PossibleUpTo (N .top) (graph K) (graph ask)
     impossible-refused u n =
-        let clash-refused : T (clashes inserted) → ⊥ = λ c. n (step-number N w bytes ∙ past-form N w bytes (table-sane N w t) f
-        (later u (here (both-and (inserts (decoded bytes)) (clashes (new N w bytes)) i (subst (λ L. T (clashes L)) (sym new-is)
-        c))))) in
+        let clash-refused : T (clashes inserted) → ⊥ = λ c. n (step-number N w bytes ∙ past-known N w bytes (table-sane N w t) f u
+        (here (both-and (inserts (decoded bytes)) (clashes (new N w bytes)) i (subst (λ L. T (clashes L)) (sym new-is)
+        c)))) in
         let m = free-smallest u clash-refused in
         (graph inserted, m .consistent, m .holds-table, m .holds-asked, new-allowed)
 
@@ -98,17 +98,18 @@ module _ (N : Numbers) (s : Sound N) (w bytes : List ℕ) (t : Table N w) (i : T
       → _⊑_ (graph K) (graph (facts N v)) → _⊑_ (graph ask) (graph (facts N v)) → ⊥
   eleven-impossible e v tv same holds-table holds-asked =
       let number = sym (step-number N w bytes) ∙ e in
-      let none = none-before (tests N w bytes) tt 10 number in
+      let Early : ℕ → Type 0 = λ n. T (precedes (tests N w bytes) n 11) in
+      let none = none-before (tests N w bytes) 11 number in
       let free : T (clashes inserted) → ⊥ =
-      λ c. none 9 (omega arith) (both-and (inserts (decoded bytes)) (clashes (new N w bytes)) i (subst (λ L. T (clashes L))
+      λ c. none 10 tt (both-and (inserts (decoded bytes)) (clashes (new N w bytes)) i (subst (λ L. T (clashes L))
       (sym new-is)
       c)) in
       let within : inserted ⊆ facts N v =
-      free-smallest (formed N w bytes (λ j h. none j (omega arith))) (none 8 (omega arith)) free .least (graph (facts N v))
-      (tv .consistent) holds-table holds-asked in
+      free-smallest (formed N w bytes Early none tt tt tt tt tt) (known N w bytes Early none tt tt) free .least
+      (graph (facts N v)) (tv .consistent) holds-table holds-asked in
       let many : length w < length (words N inserted) =
       subst (λ L. length w < length (words N L)) new-is (ltb→lt (length w) (length (words N (new N w bytes)))
-      (first-holds (tests N w bytes) tt 10 (omega arith) number)) in
+      (first-holds (tests N w bytes) tt 11 (omega arith) number)) in
       let few : length (words N inserted) ≤ length (words N (facts N v)) =
       sub-length (words N (facts N v)) (words N inserted) (sort-ascending (map (word (N .base)) (facts N v)))
       (sort-ascending (map (word (N .base)) inserted)) (words-sub N inserted (facts N v) within) in
@@ -130,6 +131,10 @@ module _ (N : Numbers) (s : Sound N) (w bytes : List ℕ) (t : Table N w) (i : T
     both-ways : (facts N (padded (length w) (words N inserted)) ⊆ inserted)
         × (inserted ⊆ facts N (padded (length w) (words N inserted)))
     both-ways = facts-padded N s (length w) inserted (new-allowed (p .formed))
+
+    -- An accepted insertion leaves no fact but those of `insertion`.
+    pub accepted-inserted : facts N (step N w bytes .table) ⊆ inserted
+    accepted-inserted = subst (λ v. facts N v ⊆ inserted) (sym table-is) (both-ways .0)
 
     -- An accepted insertion leaves the smallest consistent graph that holds the table and the asked facts.
     pub accepted-smallest : Smallest (graph K) (graph ask) (graph (facts N (step N w bytes .table)))

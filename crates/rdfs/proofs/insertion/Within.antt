@@ -1,22 +1,20 @@
 -- An insertion that some consistent graph of the table's size can take is accepted and stays within that graph; so one whose
 -- facts are all there changes nothing. Assumes nothing.
 use Prim.Native.Nat.{ℕ, _≤_}
-use mathlib.Core.Path.{_≡_, refl, sym, ap, subst, _∙_}
-use mathlib.Core.Logic.{inl, inr, ⊎-elim}
+use mathlib.Core.Path.{_≡_, sym, ap, subst, _∙_}
 use mathlib.Core.List.{List, map}
 use native.Mathlib.Omega.{arith}
 use lib.Dec.{T, ltb→lt}
 use lib.ListN.{length}
-use Rattle.rdfs.specs.Numbers.{Numbers, Sound, ticketKinds}
-use Rattle.rdfs.specs.Lists.{_∈_, here, _⊆_}
-use Rattle.rdfs.specs.Facts.{Fact, pr, psub, pi, graph}
-use Rattle.rdfs.specs.Consistency.{Lawful, Consistent}
+use Rattle.rdfs.specs.Numbers.{Numbers, Sound}
+use Rattle.rdfs.specs.Lists.{_∈_, _⊆_}
+use Rattle.rdfs.specs.Facts.{Fact, graph}
+use Rattle.rdfs.specs.Consistency.{Consistent}
 use Rattle.rdfs.specs.Words.{word, filled, facts, words, padded}
 use Rattle.rdfs.specs.Clashes.{clashes}
-use Rattle.rdfs.specs.Tickets.{decoded, inserts, asked, ticketOf}
+use Rattle.rdfs.specs.Tickets.{decoded, inserts, asked}
 use Rattle.rdfs.specs.Register.{Answer, step, Table}
-use Rattle.rdfs.specs.Orders.{Uses}
-use Rattle.rdfs.specs.Promises.{Formed, unchanged}
+use Rattle.rdfs.specs.Promises.{Formed, Provided, unchanged}
 use Rattle.rdfs.proofs.lists.Tests.{and-both}
 use Rattle.rdfs.proofs.lists.Sorted.{sort-ascending, sub-length}
 use Rattle.rdfs.proofs.consistency.LawfulParts.{demands}
@@ -25,7 +23,8 @@ use Rattle.rdfs.proofs.words.LaidOut.{laid-words, laid-again, laid-fits
 use Rattle.rdfs.proofs.lists.Counts.{besides-none}
 use Rattle.rdfs.proofs.insertion.InsertionSmallest.{insertion-in, insertion-keeps, insertion-clash}
 use Rattle.rdfs.proofs.insertion.Closure.{addAll-keeps}
-use Rattle.rdfs.proofs.tickets.TicketTests.{known-kind, known-uses}
+use Rattle.rdfs.proofs.insertion.Makes.{asked-provided}
+use Rattle.rdfs.proofs.tickets.TicketTests.{provided-known}
 use Rattle.rdfs.proofs.tickets.TicketRefusals.{new, pass}
 use Rattle.rdfs.proofs.tickets.Steps.{table-sane, table-allowed, step-number, accepted-leaves}
 use Rattle.rdfs.proofs.insertion.InsertionSteps.{new-is, ask-allowed, accepted-smallest}
@@ -46,12 +45,12 @@ module _ (N : Numbers) (s : Sound N) (w bytes : List ℕ) (t : Table N w) (i : T
           held
           wanted)
 
-      pub accepted-within : ((p : ℕ) → Uses (decoded bytes) p → pr p ∈ K) → length (words N E) ≤ length w
+      pub accepted-within : Provided K (decoded bytes) → length (words N E) ≤ length w
           → step N w bytes .number ≡ 0
       accepted-within u room = step-number N w bytes ∙ pass N w bytes (record {
         sane = table-sane N w t;
         formed = f;
-        known = known-uses K (decoded bytes) i u;
+        known = provided-known K (decoded bytes) i u;
         possible = λ h. insertion-clash (N .top) K ask (table-allowed N s w t) (ask-allowed N s w bytes t i f)
             (subst (λ L. T (clashes L)) (new-is N s w bytes t i) (and-both (inserts (decoded bytes)) (clashes (new N w bytes))
             h .1)) (graph E) c held wanted;
@@ -66,17 +65,6 @@ module _ (N : Numbers) (s : Sound N) (w bytes : List ℕ) (t : Table N w) (i : T
 
       pub accepted-inside : step N w bytes .number ≡ 0 → facts N (step N w bytes .table) ⊆ E
       accepted-inside e = accepted-smallest N s w bytes t i e .least (graph E) c held wanted
-
--- The properties that a ticket uses stand where its facts do.
-asked-uses : (K : List Fact) → Lawful (graph K) → (o k a b c : ℕ) → k ∈ ticketKinds → asked (ticketOf o k a b c) ⊆ K → (p : ℕ)
-    → Uses (ticketOf o k a b c) p → pr p ∈ K
-asked-uses K c o k a b d h all p (inl u) =
-    let link : psub a b ∈ K = subst (λ k. asked (ticketOf o k a b d) ⊆ K) (u .0) all (psub a b) (here refl) in
-    let q = c .rule-8 a b link in
-    ⊎-elim (λ e. subst (λ x. pr x ∈ K) (sym e) (q .0)) (λ e. subst (λ x. pr x ∈ K) (sym e) (q .1)) (u .1)
-asked-uses K c o k a b d h all p (inr u) =
-    let value : pi a b d ∈ K = subst (λ k. asked (ticketOf o k a b d) ⊆ K) (u .0) all (pi a b d) (here refl) in
-    subst (λ x. pr x ∈ K) (sym (u .1)) (c .rule-12 a b d value .1)
 
 pub answer-same : (a : Answer) (w : List ℕ) → a .number ≡ 0 → a .added ≡ 0 → a .removed ≡ 0 → a .table ≡ w → a ≡ unchanged w
 answer-same a w n p q r = λ i. record { number = n i; added = p i; removed = q i; table = r i }
@@ -97,7 +85,7 @@ pub repeated-insertion : (N : Numbers) → Sound N → (w bytes : List ℕ) → 
     → asked (decoded bytes) ⊆ facts N w → step N w bytes ≡ unchanged w
 repeated-insertion N s w bytes t i f all =
     let d = decoded bytes in
-    let u = asked-uses (facts N w) (t .consistent) (d .operation) (d .kind) (d .a) (d .b) (d .c) (known-kind d (f .kind)) all in
+    let u = asked-provided (facts N w) d all (t .consistent) in
     let e = accepted-within N s w bytes t i f (facts N w) (t .consistent) (λ g h. h) all u (laid-fits N w (t .laid)) in
     same-facts N w bytes t e (inside N s w bytes t i f (facts N w) (t .consistent) (λ g h. h) all)
     (λ g h. subst (λ L. g ∈ L) (sym (new-is N s w bytes t i)) (insertion-keeps (N .top) (facts N w) (asked d)

@@ -2,21 +2,29 @@
 -- graph that holds what both ask for, so neither can leave it. Assumes nothing.
 use Prim.Native.Nat.{ℕ, _≤_}
 use mathlib.Core.Path.{_≡_, refl, sym, ap, subst, _∙_}
-use mathlib.Core.Bool.{Bool, true, false, cond}
 use mathlib.Core.Logic.{⊎-elim}
 use mathlib.Core.List.{List, [], _∷_, _++_, append-assoc}
-use lib.Dec.{T, eqb}
+use lib.Dec.{T}
 use lib.ListN.{length}
 use Rattle.rdfs.specs.Numbers.{Numbers, Sound}
 use Rattle.rdfs.specs.Lists.{_∈_, here, there, _⊆_}
-use Rattle.rdfs.specs.Facts.{Fact, pr, dom, rng, graph}
+use Rattle.rdfs.specs.Facts.{Fact, cl, pr, graph}
 use Rattle.rdfs.specs.Consistency.{Consistent}
 use Rattle.rdfs.specs.Words.{facts, words, padded}
-use Rattle.rdfs.specs.Tickets.{Ticket, decoded, inserts, makesProperty, named, asked}
+use Rattle.rdfs.specs.Tickets.{Ticket, decoded, inserts, asked}
 use Rattle.rdfs.specs.Register.{step, run, Table}
-use Rattle.rdfs.specs.Orders.{SameTickets, Uses, InOrder, AllInsertions, AllAccepted}
-use Rattle.rdfs.specs.Promises.{Formed}
-use Rattle.rdfs.proofs.lists.Tests.{and-both}
+use Rattle.rdfs.specs.Orders.{
+  SameTickets,
+  UsesProperty,
+  MakesProperty,
+  UsesClass,
+  MakesClass,
+  Waits,
+  InOrder,
+  AllInsertions,
+  AllAccepted,
+}
+use Rattle.rdfs.specs.Promises.{Formed, Provided}
 use Rattle.rdfs.proofs.lists.ListLaws.{in-cons, in-one, none-in, in-append}
 use Rattle.rdfs.proofs.words.FactLaws.{in-list}
 use Rattle.rdfs.proofs.words.Tables.{words-same}
@@ -25,15 +33,18 @@ use Rattle.rdfs.proofs.register.Perms.{same-tickets-in, same-tickets-sy
 use Rattle.rdfs.proofs.tickets.TicketRefusals.{Passed, passed}
 use Rattle.rdfs.proofs.tickets.Steps.{step-number, step-length}
 use Rattle.rdfs.proofs.insertion.InsertionSteps.{accepted-smallest, insertion-table}
+use Rattle.rdfs.proofs.insertion.Makes.{property-made, class-made}
 use Rattle.rdfs.proofs.insertion.Within.{accepted-within, accepted-inside}
 
--- The asked facts of a property ticket hold the property.
-made-property : (t : Ticket) (p : ℕ) → T (makesProperty t) → t .a ≡ p → pr p ∈ asked t
-made-property t p m e = pick (eqb (t .kind) 2) (and-both (inserts t) (eqb (t .kind) 2) m .1)
-  where
-    pick : (b : Bool) → T b → pr p ∈ cond b (pr (t .a) ∷ dom (t .a) (t .b) ∷ rng (t .a) (t .c) ∷ []) (named t ∷ [])
-    pick true h = here (ap pr (sym e))
-    pick false h = absurd h
+-- What a ticket waits for stands where the facts of the start do and all that the tickets before it make.
+waited : (role : ℕ → Fact) (Uses Makes : Ticket → ℕ → Type 0) (start : List Fact) (all : List (List ℕ))
+    → Waits role Uses Makes start all → (before after : List (List ℕ)) (ticket : List ℕ) → all ≡ before ++ (ticket ∷ after)
+    → (K : List Fact) → start ⊆ K → ((other : List ℕ) → other ∈ before → (x : ℕ) → Makes (decoded other) x → role x ∈ K)
+    → (x : ℕ) → Uses (decoded ticket) x → role x ∈ K
+waited role Uses Makes start all order before after ticket e K held made x u = elim (in-list start (role x)) [
+  | yes h ↦ held (role x) h
+  | no n ↦ let r = order before after ticket x e u n in made (r .0) (r .1) x (r .2)
+]
 
 module _ (N : Numbers) (s : Sound N) where
   -- What a run of accepted insertions leaves.
@@ -95,10 +106,12 @@ module _ (N : Numbers) (s : Sound N) where
     taken done [] w q t st dn held ok room = λ n h. absurd (none-in h)
     taken done (b ∷ l) w q t st dn held ok room =
         let o = ok b (here refl) in
-        let uses : (p : ℕ) → Uses (decoded b) p → pr p ∈ facts N w = λ p u. elim (in-list start (pr p)) [
-          | yes h ↦ st (pr p) h
-          | no n ↦ let r = order done l b p q u n in dn (r .0) (r .1) (pr p) (made-property (decoded (r .0)) p (r .2) (r .3))
-        ] in
+        let uses : Provided (facts N w) (decoded b) = record {
+          properties = waited pr UsesProperty MakesProperty start all (order .properties) done l b q (facts N w) st
+              (λ u k. property-made (facts N w) (decoded u) (dn u k));
+          classes = waited cl UsesClass MakesClass start all (order .classes) done l b q (facts N w) st
+              (λ u k. class-made (facts N w) (decoded u) (dn u k) (t .consistent));
+        } in
         let e : step N w b .number ≡ 0 = accepted-within N s w b t (o .0) (o .1) E c held (o .2) uses room in
         let m = accepted-smallest N s w b t (o .0) e in
         let rest = taken (done ++ (b ∷ [])) l (step N w b .table) (q ∙ sym (append-assoc done (b ∷ []) l))
@@ -110,7 +123,7 @@ module _ (N : Numbers) (s : Sound N) where
         (sym (step-length N w b)) room) in
         λ n h. ⊎-elim (λ z. z ∙ e) (rest n) (in-cons h)
 
-  -- The theorem: the same tickets, each as often, each use of a new property after an insertion of it.
+  -- The theorem: the same tickets, each as often, each property and class made before it is used.
   pub rearrangement : (w : List ℕ) → Table N w → (l m : List (List ℕ)) → AllInsertions l → AllAccepted (run N w l .numbers)
       → SameTickets l m → InOrder (facts N w) m
       → AllAccepted (run N w m .numbers) × (run N w m .table ≡ run N w l .table)

@@ -1,13 +1,12 @@
--- The first refusal of a list: the answer is the number at a place exactly if the test there holds and those before it do not,
--- and 0 exactly if no test holds. Assumes nothing.
-use Prim.Native.Nat.{ℕ, zero, suc, _<_}
+-- The first refusal of a list: the answer is a number exactly if its test holds and those before it do not, and 0 exactly if no
+-- test holds. Assumes nothing.
+use Prim.Native.Nat.{ℕ}
 use mathlib.Core.Path.{_≡_, refl, sym, subst, _∙_}
-use mathlib.Core.Bool.{Bool, true, false, not, _&&_}
+use mathlib.Core.Bool.{Bool, true, false, not, _&&_, _||_, cond}
 use mathlib.Core.Logic.{⊎-elim}
 use mathlib.Core.List.{List, [], _∷_, map}
-use native.Mathlib.Omega.{arith}
-use lib.Dec.{T, T-not}
-use lib.ListN.{length}
+use lib.Dec.{T, eqb, T-not}
+use borrow.Author.Tests.{eq-eqb, eqb-true, eqb-false}
 use Rattle.rdfs.specs.Lists.{_∈_, here as first, there as further, member}
 use Rattle.rdfs.specs.Refusals.{orElse, firstOr, firstTrue, First, none, here, later}
 use Rattle.rdfs.proofs.lists.Tests.{and-both}
@@ -27,16 +26,20 @@ pub stop-link : (t : Bool) (n rest : ℕ) → T t → orElse t n rest ≡ n
 stop-link true n rest h = refl
 stop-link false n rest h = absurd h
 
--- The number and the test at a place of a list; 0 and no test beyond its end.
-abbrev pub numberAt : List (ℕ × Bool) → ℕ → ℕ
-numberAt [] i = 0
-numberAt (r ∷ l) zero = r .0
-numberAt (r ∷ l) (suc i) = numberAt l i
+-- The test of a number in a list; none if the list does not have it.
+abbrev pub testOf : List (ℕ × Bool) → ℕ → Bool
+testOf [] n = false
+testOf (r ∷ l) n = cond (eqb (r .0) n) (r .1) (testOf l n)
 
-abbrev pub testAt : List (ℕ × Bool) → ℕ → Bool
-testAt [] i = false
-testAt (r ∷ l) zero = r .1
-testAt (r ∷ l) (suc i) = testAt l i
+-- m stands before n.
+abbrev pub precedes : List (ℕ × Bool) → ℕ → ℕ → Bool
+precedes [] m n = false
+precedes (r ∷ l) m n = not (eqb (r .0) n) && (eqb (r .0) m || precedes l m n)
+
+-- Neither of two tests holds, so the one that is picked does not.
+by-cond : (b s t : Bool) → (T s → ⊥) → (T t → ⊥) → T (cond b s t) → ⊥
+by-cond true s t p q = p
+by-cond false s t p q = q
 
 -- The numbers that an answer can be.
 abbrev answers : List (ℕ × Bool) → List ℕ
@@ -46,11 +49,6 @@ answers l = 0 ∷ map (λ r. r .0) l
 abbrev pub distinct : List (ℕ × Bool) → Bool
 distinct [] = true
 distinct (r ∷ l) = not (member (answers l) (r .0)) && distinct l
-
-number-in : (l : List (ℕ × Bool)) (i : ℕ) → numberAt l i ∈ answers l
-number-in [] i = first refl
-number-in (r ∷ l) zero = further (first refl)
-number-in (r ∷ l) (suc i) = ⊎-elim (λ e. first e) (λ h. further (further h)) (in-cons (number-in l i))
 
 answer-in : (l : List (ℕ × Bool)) → firstTrue l ∈ answers l
 answer-in [] = first refl
@@ -74,29 +72,37 @@ module _ (r : ℕ × Bool) (l : List (ℕ × Bool)) (d : T (distinct (r ∷ l)))
   later-answer n h = passed-link (r .1) (r .0) (firstTrue l) n (own-number n h)
 
 -- The answer is 0: no test holds.
-pub none-holds : (l : List (ℕ × Bool)) → T (distinct l) → firstTrue l ≡ 0 → (i : ℕ) → T (testAt l i) → ⊥
-none-holds [] d e i h = h
-none-holds (r ∷ l) d e zero h = later-answer r l d 0 (first refl) e .0 h
-none-holds (r ∷ l) d e (suc i) h = none-holds l (others r l d) (later-answer r l d 0 (first refl) e .1) i h
+pub none-holds : (l : List (ℕ × Bool)) → T (distinct l) → firstTrue l ≡ 0 → (n : ℕ) → T (testOf l n) → ⊥
+none-holds [] d e n h = h
+none-holds (r ∷ l) d e n h =
+    let p = later-answer r l d 0 (first refl) e in
+    by-cond (eqb (r .0) n) (r .1) (testOf l n) (p .0) (none-holds l (others r l d) (p .1) n) h
 
--- It is the number at a place: the test there holds, and those before it do not.
-pub first-holds : (l : List (ℕ × Bool)) → T (distinct l) → (i : ℕ) → i < length l → firstTrue l ≡ numberAt l i → T (testAt l i)
-first-holds [] d i h e = absurd (omega arith)
-first-holds (r ∷ l) d zero h e = stopped (r .1) e
+-- It is another number: the test of that number holds, and those before it do not.
+pub first-holds : (l : List (ℕ × Bool)) → T (distinct l) → (n : ℕ) → (n ≡ 0 → ⊥) → firstTrue l ≡ n → T (testOf l n)
+first-holds [] d n z e = absurd (z (sym e))
+first-holds (r ∷ l) d n z e = pick (eqb (r .0) n) refl (first-holds l (others r l d) n z)
   where
-    stopped : (t : Bool) → orElse t (r .0) (firstTrue l) ≡ r .0 → T t
-    stopped true q = tt
-    stopped false q = own-number r l d (firstTrue l) (answer-in l) (sym q)
-first-holds (r ∷ l) d (suc i) h e =
-    first-holds l (others r l d) i (omega arith) (later-answer r l d (numberAt l i) (number-in l i) e .1)
+    stopped : (t : Bool) → r .0 ≡ n → orElse t (r .0) (firstTrue l) ≡ n → T t
+    stopped true s q = tt
+    stopped false s q = own-number r l d (firstTrue l) (answer-in l) (s ∙ sym q)
 
-pub none-before : (l : List (ℕ × Bool)) → T (distinct l) → (i : ℕ) → firstTrue l ≡ numberAt l i → (j : ℕ) → j < i
-    → T (testAt l j) → ⊥
-none-before [] d i e j k h = h
-none-before (r ∷ l) d zero e j k h = omega arith
-none-before (r ∷ l) d (suc i) e zero k h = later-answer r l d (numberAt l i) (number-in l i) e .0 h
-none-before (r ∷ l) d (suc i) e (suc j) k h =
-    none-before l (others r l d) i (later-answer r l d (numberAt l i) (number-in l i) e .1) j (omega arith) h
+    pick : (b : Bool) → eqb (r .0) n ≡ b → (firstTrue l ≡ n → T (testOf l n)) → T (cond b (r .1) (testOf l n))
+    pick true s rest = stopped (r .1) (eqb-true (r .0) n s) e
+    pick false s rest = rest (passed-link (r .1) (r .0) (firstTrue l) n (eqb-false (r .0) n s) e .1)
+
+pub none-before : (l : List (ℕ × Bool)) (n : ℕ) → firstTrue l ≡ n → (m : ℕ) → T (precedes l m n) → T (testOf l m) → ⊥
+none-before [] n e m k h = h
+none-before (r ∷ l) n e m k h =
+    let q = and-both (not (eqb (r .0) n)) (eqb (r .0) m || precedes l m n) k in
+    let differs : r .0 ≡ n → ⊥ = λ s. T-not (eqb (r .0) n) (q .0) (subst T (sym (eq-eqb (r .0) n s)) tt) in
+    let p = passed-link (r .1) (r .0) (firstTrue l) n differs e in
+    pick (eqb (r .0) m) (q .1) (p .0) (none-before l n (p .1) m) h
+  where
+    pick : (b : Bool) → T (b || precedes l m n) → (T (r .1) → ⊥) → (T (precedes l m n) → T (testOf l m) → ⊥)
+        → T (cond b (r .1) (testOf l m)) → ⊥
+    pick true k p rest h = p h
+    pick false k p rest h = rest k h
 
 -- The answer is the first refusal whose condition holds, and no other number is.
 pub first-true : (l : List (ℕ × Bool)) → First l (firstTrue l)

@@ -47,12 +47,12 @@ pub checked-table : (N : Numbers) (w : List ℕ) → tableRefusal N w 0 ≡ 0 �
 checked-table N w e =
     let past = none-holds (tableTests N w) tt e in
     record {
-      some = nleb→lt (length w) 0 (not-T (leb (length w) 0) (λ h. past 0 (either-or (leb (length w) 0) (ltb (N .most) (length w))
+      some = nleb→lt (length w) 0 (not-T (leb (length w) 0) (λ h. past 1 (either-or (leb (length w) 0) (ltb (N .most) (length w))
           (inl h))));
       fits = nltb→le (N .most) (length w) (not-T (ltb (N .most) (length w))
-          (λ h. past 0 (either-or (leb (length w) 0) (ltb (N .most) (length w)) (inr h))));
-      laid = stands (laidOut N 1 w) (past 1);
-      consistent = check-sound (facts N w) (stands (consistent? (facts N w)) (past 2));
+          (λ h. past 1 (either-or (leb (length w) 0) (ltb (N .most) (length w)) (inr h))));
+      laid = stands (laidOut N 1 w) (past 2);
+      consistent = check-sound (facts N w) (stands (consistent? (facts N w)) (past 3));
     }
 
 -- One of them that holds is the answer, whatever comes after.

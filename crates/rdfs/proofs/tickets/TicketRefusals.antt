@@ -1,14 +1,13 @@
 -- The refusals of a ticket, in their order: what is known past each, and when a ticket is accepted. Assumes nothing.
-use Prim.Native.Nat.{ℕ, _<_}
+use Prim.Native.Nat.{ℕ}
 use mathlib.Core.Path.{_≡_}
 use mathlib.Core.Bool.{Bool}
 use mathlib.Core.List.{List, [], _∷_, _++_}
-use native.Mathlib.Omega.{arith}
 use lib.Dec.{T}
 use Rattle.rdfs.specs.Numbers.{Numbers}
 use Rattle.rdfs.specs.Facts.{Fact}
 use Rattle.rdfs.specs.Words.{facts}
-use Rattle.rdfs.specs.Tickets.{Ticket, decoded, unknownProperty, clashing}
+use Rattle.rdfs.specs.Tickets.{Ticket, decoded, unknownProperty, unknownClass, clashing}
 use Rattle.rdfs.specs.Refusals.{
   firstTrue,
   First,
@@ -22,8 +21,8 @@ use Rattle.rdfs.specs.Refusals.{
   tableTests,
   ticketTests,
 }
-use Rattle.rdfs.specs.Promises.{Formed}
-use Rattle.rdfs.proofs.tickets.FirstTrue.{testAt, none-holds, first-is}
+use Rattle.rdfs.specs.Promises.{Formed, Known}
+use Rattle.rdfs.proofs.tickets.FirstTrue.{testOf, none-holds, first-is}
 
 -- What is known past the first three.
 pub record Sane (N : Numbers) (w : List ℕ) : Type 0 where
@@ -41,7 +40,7 @@ module _ (N : Numbers) (w bytes : List ℕ) where
   abbrev pub new : List Fact
   new = outcome (N .top) old given
 
-  -- A ticket's refusals in their order: number n stands at place n - 1.
+  -- A ticket's refusals in their order.
   abbrev pub tests : List (ℕ × Bool)
   tests = tableTests N w ++ ticketTests N w old new bytes
 
@@ -50,35 +49,47 @@ module _ (N : Numbers) (w bytes : List ℕ) where
 
   -- Past refusals 1 to 8.
   pub past-form : {n : ℕ} → Sane N w → Formed N bytes
-      → First ((9, unknownProperty old given) ∷ (10, clashing new given) ∷ (11, tooMany N w new) ∷ []) n → refusal ≡ n
+      → First ((9, unknownProperty old given) ∷ (16, unknownClass old given) ∷ (10, clashing new given) ∷ (11, tooMany N w new)
+      ∷ []) n → refusal ≡ n
   past-form s f h = first-is tests (later (s .size) (later (s .layout) (later (s .rules) (later (f .long) (later (f .operation)
       (later (f .kind) (later (f .ids) (later (f .free) h))))))))
 
-  -- What holds past the first eight, if those tests do not.
-  pub sane : ((i : ℕ) → i < 3 → T (testAt tests i) → ⊥) → Sane N w
-  sane h = record { size = h 0 (omega arith); layout = h 1 (omega arith); rules = h 2 (omega arith) }
+  -- Past 9 and 16 too.
+  pub past-known : {n : ℕ} → Sane N w → Formed N bytes → Known old given
+      → First ((10, clashing new given) ∷ (11, tooMany N w new) ∷ []) n → refusal ≡ n
+  past-known s f k h = past-form s f (later (k .property) (later (k .class) h))
 
-  pub formed : ((i : ℕ) → i < 8 → T (testAt tests i) → ⊥) → Formed N bytes
-  formed h = record {
-    long = h 3 (omega arith);
-    operation = h 4 (omega arith);
-    kind = h 5 (omega arith);
-    ids = h 6 (omega arith);
-    free = h 7 (omega arith);
-  }
+  -- What holds where none of the early tests does.
+  module _ (Early : ℕ → Type 0) (past : (n : ℕ) → Early n → T (testOf tests n) → ⊥) where
+    pub sane : Early 1 → Early 2 → Early 3 → Sane N w
+    sane a b c = record { size = past 1 a; layout = past 2 b; rules = past 3 c }
+
+    pub formed : Early 4 → Early 5 → Early 6 → Early 7 → Early 8 → Formed N bytes
+    formed a b c d e =
+        record { long = past 4 a; operation = past 5 b; kind = past 6 c; ids = past 7 d; free = past 8 e }
+
+    pub known : Early 9 → Early 16 → Known old given
+    known a b = record { property = past 9 a; class = past 16 b }
 
   -- Accepted: no test holds.
   pub record Passed : Type 0 where
     pub sane : Sane N w
     pub formed : Formed N bytes
-    pub known : T (unknownProperty old given) → ⊥
+    pub known : Known old given
     pub possible : T (clashing new given) → ⊥
     pub room : T (tooMany N w new) → ⊥
 
   pub passed : refusal ≡ 0 → Passed
   passed e =
-      let h : (i : ℕ) → T (testAt tests i) → ⊥ = none-holds tests tt e in
-      record { sane = sane (λ i _. h i); formed = formed (λ i _. h i); known = h 8; possible = h 9; room = h 10 }
+      let Any : ℕ → Type 0 = λ _. Unit {0} in
+      let past : (n : ℕ) → Any n → T (testOf tests n) → ⊥ = λ n _. none-holds tests tt e n in
+      record {
+        sane = sane Any past tt tt tt;
+        formed = formed Any past tt tt tt tt tt;
+        known = known Any past tt tt;
+        possible = past 10 tt;
+        room = past 11 tt;
+      }
 
   pub pass : Passed → refusal ≡ 0
-  pass p = past-form (p .sane) (p .formed) (later (p .known) (later (p .possible) (later (p .room) none)))
+  pass p = past-known (p .sane) (p .formed) (p .known) (later (p .possible) (later (p .room) none))

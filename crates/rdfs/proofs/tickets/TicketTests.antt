@@ -4,6 +4,7 @@ use mathlib.Core.Path.{_≡_, refl, sym, subst}
 use mathlib.Core.Bool.{Bool, true, false, not, _&&_, _||_}
 use mathlib.Core.Logic.{_⊎_, inl, inr, ⊎-elim}
 use mathlib.Core.List.{List, [], _∷_}
+use native.Mathlib.Omega.{arith}
 use lib.Dec.{T, eqb, ltb, not-T, nltb→le}
 use Rattle.rdfs.specs.Numbers.{ticketKinds}
 use Rattle.rdfs.specs.Lists.{_∈_, member}
@@ -21,9 +22,10 @@ use Rattle.rdfs.specs.Tickets.{
   markMisplaced,
   aboveHighest,
   unknownProperty,
+  unknownClass,
   ticketOf,
 }
-use Rattle.rdfs.specs.Orders.{Uses}
+use Rattle.rdfs.specs.Promises.{Known, Provided}
 use Rattle.rdfs.proofs.lists.Tests.{
   Tests,
   tests-and,
@@ -64,31 +66,52 @@ known-operation t n = or-either (inserts t) (deletes t) (stands (inserts t || de
 pub known-kind : (t : Ticket) → (T (badKind t) → ⊥) → t .kind ∈ ticketKinds
 known-kind t n = member-in ticketKinds (t .kind) (stands (member ticketKinds (t .kind)) n)
 
--- Refusal 9 and the properties that an insertion uses.
-module _ (K : List Fact) (t : Ticket) (i : T (inserts t)) where
-  lacks : (x : ℕ) → Tests (not (has K (pr x))) (pr x ∈ K → ⊥)
-  lacks x = tests-not (tests-has K (pr x))
+-- Refusals 9 and 16, and the properties and classes that an insertion uses.
+module _ (K : List Fact) (t : Ticket) where
+  lacks : (f : Fact) → Tests (not (has K f)) (f ∈ K → ⊥)
+  lacks f = tests-not (tests-has K f)
 
-  tests-unknown : Tests (unknownProperty K t) (T (inserts t) × (((t .kind ≡ 6) × ((pr (t .a) ∈ K → ⊥) ⊎ (pr (t .b) ∈ K → ⊥)))
-      ⊎ ((t .kind ≡ 10) × (pr (t .c) ∈ K → ⊥))))
-  tests-unknown = tests-and (tests-self (inserts t))
-      (tests-or (tests-and (tests-eq (t .kind) 6) (tests-or (lacks (t .a)) (lacks (t .b)))) (tests-and (tests-eq (t .kind) 10)
-      (lacks (t .c))))
+  there : (f : Fact) → ((f ∈ K → ⊥) → ⊥) → f ∈ K
+  there f h = tests-has K f .sound (stands (has K f) (λ m. h (lacks f .sound m)))
 
-  pub uses-known : (T (unknownProperty K t) → ⊥) → (p : ℕ) → Uses t p → pr p ∈ K
-  uses-known n p u =
-      let at : (x : ℕ) → p ≡ x → ((pr x ∈ K → ⊥) → ⊥) → pr p ∈ K =
-      λ x e h. subst (λ y. pr y ∈ K) (sym e) (tests-has K (pr x) .sound
-      (stands (has K (pr x)) (λ m. h (lacks x .sound m)))) in
-      ⊎-elim
-      (λ q. ⊎-elim (λ e. at (t .a) e (λ m. n (tests-unknown .complete (i, inl (q .0, inl m)))))
-      (λ e. at (t .b) e (λ m. n (tests-unknown .complete (i, inl (q .0, inr m))))) (q .1))
-      (λ q. at (t .c) (q .1) (λ m. n (tests-unknown .complete (i, inr (q .0, m))))) u
+  tests-unknown-property : Tests (unknownProperty K t) (T (inserts t)
+      × (((t .kind ≡ 6) × ((pr (t .a) ∈ K → ⊥) ⊎ (pr (t .b) ∈ K → ⊥))) ⊎ ((t .kind ≡ 10) × (pr (t .c) ∈ K → ⊥))))
+  tests-unknown-property = tests-and (tests-self (inserts t))
+      (tests-or (tests-and (tests-eq (t .kind) 6) (tests-or (lacks (pr (t .a))) (lacks (pr (t .b)))))
+      (tests-and (tests-eq (t .kind) 10) (lacks (pr (t .c)))))
 
-  pub known-uses : ((p : ℕ) → Uses t p → pr p ∈ K) → T (unknownProperty K t) → ⊥
-  known-uses u h = ⊎-elim
-      (λ q. ⊎-elim (λ m. m (u (t .a) (inl (q .0, inl refl)))) (λ m. m (u (t .b) (inl (q .0, inr refl)))) (q .1))
-      (λ q. q .1 (u (t .c) (inr (q .0, refl)))) (tests-unknown .sound h .1)
+  pub tests-unknown-class : Tests (unknownClass K t) (T (inserts t) × ((t .kind ≡ 9) × (cl (t .b) ∈ K → ⊥)))
+  tests-unknown-class = tests-and (tests-self (inserts t)) (tests-and (tests-eq (t .kind) 9) (lacks (cl (t .b))))
+
+  -- CI uses no property.
+  pub member-no-property : t .kind ≡ 9 → T (unknownProperty K t) → ⊥
+  member-no-property e h =
+      ⊎-elim (λ q. omega (arith, e, q .0)) (λ q. omega (arith, e, q .0)) (tests-unknown-property .sound h .1)
+
+  -- Past both, what an insertion uses stands.
+  pub known-provided : T (inserts t) → Known K t → Provided K t
+  known-provided i k = record {
+    properties = λ p. ⊎-elim
+        (λ q. ⊎-elim (λ e. at e (λ m. property (inl (q .0, inl m)))) (λ e. at e (λ m. property (inl (q .0, inr m)))) (q .1))
+        (λ q. at (q .1) (λ m. property (inr (q .0, m))));
+    classes = λ x u. subst (λ y. cl y ∈ K) (sym (u .2))
+        (there (cl (t .b)) (λ m. k .class (tests-unknown-class .complete (i, (u .1, m)))));
+  }
+    where
+      property : ((t .kind ≡ 6) × ((pr (t .a) ∈ K → ⊥) ⊎ (pr (t .b) ∈ K → ⊥))) ⊎ ((t .kind ≡ 10) × (pr (t .c) ∈ K → ⊥)) → ⊥
+      property q = k .property (tests-unknown-property .complete (i, q))
+
+      at : {p x : ℕ} → p ≡ x → ((pr x ∈ K → ⊥) → ⊥) → pr p ∈ K
+      at {x = x} e h = subst (λ y. pr y ∈ K) (sym e) (there (pr x) h)
+
+  pub provided-known : T (inserts t) → Provided K t → Known K t
+  provided-known i u = record {
+    property = λ h. ⊎-elim
+        (λ q. ⊎-elim (λ m. m (u .properties (t .a) (inl (q .0, inl refl)))) (λ m. m (u .properties (t .b) (inl (q .0, inr refl))))
+        (q .1))
+        (λ q. q .1 (u .properties (t .c) (inr (q .0, refl)))) (tests-unknown-property .sound h .1);
+    class = λ h. let q = tests-unknown-class .sound h .1 in q .1 (u .classes (t .b) (i, q .0, refl));
+  }
 
 -- The ids of a ticket past refusal 7.
 module _ (top : ℕ) (t : Ticket) (n : T (badIds top t) → ⊥) where

@@ -14,14 +14,14 @@ class-link-clashes-requires c κs = search needs
 property-link-clashes-requires : tie.Need-property-link-clashes-requires
 property-link-clashes-requires c κs = search needs
 
-member-clashes-requires : tie.Need-member-clashes-requires
-member-clashes-requires c κs = search needs
+has-other-role-requires : tie.Need-has-other-role-requires
+has-other-role-requires c κs = search needs
 
 value-clashes-requires : tie.Need-value-clashes-requires
 value-clashes-requires c κs = search needs
 
-has-other-role-requires : tie.Need-has-other-role-requires
-has-other-role-requires c κs = search needs
+has-other-role-requires-2 : tie.Need-has-other-role-requires-2
+has-other-role-requires-2 c κs = search needs
 
 returns : tie.Need-returns
 unfolding lookupClash
@@ -37,7 +37,7 @@ returns-3 c = simp (c .before .match .keys3) (c .property-link-clashes .ensures)
 
 returns-4 : tie.Need-returns-4
 unfolding lookupClash
-returns-4 c = simp (c .before .match .keys4) (c .member-clashes .ensures)
+returns-4 c = simp (c .before .match .keys4) (c .has-other-role .ensures)
 
 returns-5 : tie.Need-returns-5
 unfolding lookupClash
@@ -53,7 +53,7 @@ returns-6 c =
       ne-eqb _ _ (kinds .0 .0 .1),
       ne-eqb _ _ (kinds .0 .0 .0 .1),
       ne-eqb _ _ (kinds .0 .0 .0 .0 .1),
-    ) (c .has-other-role .ensures)
+    ) (c .has-other-role2 .ensures)
 
 pub clashes-spec : {M : Type 1} → statement M
 clashes-spec =
@@ -62,9 +62,9 @@ clashes-spec =
     property-clashes-requires
     class-link-clashes-requires
     property-link-clashes-requires
-    member-clashes-requires
-    value-clashes-requires
     has-other-role-requires
+    value-clashes-requires
+    has-other-role-requires-2
     returns
     returns-2
     returns-3

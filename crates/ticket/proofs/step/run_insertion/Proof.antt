@@ -2,7 +2,7 @@
 use mathlib.Core.Path.{sym, _∙_}
 use borrow.Author.Needs.{needs}
 use Rattle.ticket_form.proofs.Formed.{formed-ids}
-use Rattle.ticket.proofs.Ways.{ready-asked, way-unknown, way-there, way-clash}
+use Rattle.ticket.proofs.Ways.{ready-asked, known-by, way-no-property, way-there, way-no-class, way-clash}
 use Rattle.ticket.proofs.step.run_insertion.Statement.{statement}
 use Rattle.ticket.proofs.step.run_insertion.Tie as tie
 
@@ -15,7 +15,7 @@ same-length c = search needs
 returns : tie.Need-returns
 returns c =
     let s = c .before .before .before .before in
-    way-unknown (s .pre) (sym (c .if1 .taken) ∙ c .before .is-unknown-property .ensures)
+    way-no-property (s .pre) (sym (c .if1 .taken) ∙ c .before .is-unknown-property .ensures)
 
 has-asked-requires : tie.Need-has-asked-requires
 has-asked-requires c κs = search needs
@@ -28,12 +28,8 @@ returns-2 c =
     let s = c .before .before .before .before .before .before .before in
     way-there (s .pre) (sym (c .if2 .taken) ∙ c .before .has-asked .ensures)
 
-clashes-requires : tie.Need-clashes-requires
-clashes-requires c κs =
-    let s = c .before .before .before .before .before .before .before .before in
-    let ids = formed-ids 1 (s .args .k) (s .args .a) (s .args .b) (s .args .c) (s .pre .formed) in
-    let counted = ready-asked (s .pre) .table in
-    search needs
+is-unknown-class-requires : tie.Need-is-unknown-class-requires
+is-unknown-class-requires c κs = search needs
 
 same-length-3 : tie.Need-same-length-3
 same-length-3 c = search needs
@@ -42,24 +38,44 @@ returns-3 : tie.Need-returns-3
 returns-3 c =
     let u = c .before .before .before .before .before .before in
     let s = u .before .before .before .before in
-    way-clash (s .pre) (sym (u .if1 .left) ∙ u .before .is-unknown-property .ensures) (sym (c .if3 .taken)
-    ∙ c .before .clashes .ensures)
+    way-no-class (s .pre) (sym (u .if1 .left) ∙ u .before .is-unknown-property .ensures) (sym (c .if3 .taken)
+    ∙ c .before .is-unknown-class .ensures)
 
-insert-possible-requires : tie.Need-insert-possible-requires
-insert-possible-requires c κs =
-    let u = c .before .before .before .before .before .before .before in
-    let d = c .before in
-    record {
-      ready = u .before .before .before .before .pre;
-      known = sym (u .before .is-unknown-property .ensures) ∙ u .if1 .left;
-      free = sym (d .before .clashes .ensures) ∙ d .if3 .left;
-    }
+clashes-requires : tie.Need-clashes-requires
+clashes-requires c κs =
+    let s = c .before .before .before .before .before .before .before .before .before .before .before in
+    let ids = formed-ids 1 (s .args .k) (s .args .a) (s .args .b) (s .args .c) (s .pre .formed) in
+    let counted = ready-asked (s .pre) .table in
+    search needs
 
 same-length-4 : tie.Need-same-length-4
 same-length-4 c = search needs
 
 returns-4 : tie.Need-returns-4
-returns-4 c = search needs
+returns-4 c =
+    let v = c .before .before .before in
+    let u = v .before .before .before .before .before .before in
+    let s = u .before .before .before .before in
+    way-clash (s .pre) (known-by (sym (u .if1 .left) ∙ u .before .is-unknown-property .ensures)
+    (sym (v .if3 .left) ∙ v .before .is-unknown-class .ensures)) (sym (c .if4 .taken) ∙ c .before .clashes .ensures)
+
+insert-possible-requires : tie.Need-insert-possible-requires
+insert-possible-requires c κs =
+    let d = c .before in
+    let v = d .before .before .before in
+    let u = v .before .before .before .before .before .before in
+    record {
+      ready = u .before .before .before .before .pre;
+      known = known-by (sym (u .if1 .left) ∙ u .before .is-unknown-property .ensures)
+          (sym (v .if3 .left) ∙ v .before .is-unknown-class .ensures);
+      free = sym (d .before .clashes .ensures) ∙ d .if4 .left;
+    }
+
+same-length-5 : tie.Need-same-length-5
+same-length-5 c = search needs
+
+returns-5 : tie.Need-returns-5
+returns-5 c = search needs
 
 pub run-insertion-spec : {M : Type 1} → statement M
 run-insertion-spec =
@@ -71,9 +87,12 @@ run-insertion-spec =
     has-asked-requires
     same-length-2
     returns-2
-    clashes-requires
+    is-unknown-class-requires
     same-length-3
     returns-3
-    insert-possible-requires
+    clashes-requires
     same-length-4
-    returns-4)
+    returns-4
+    insert-possible-requires
+    same-length-5
+    returns-5)
