@@ -1,11 +1,12 @@
-//! The plant editor: members are entered first and the classes are linked late. The order does not matter;
-//! every member is in every class above its own, and the graph is the same as if the tree had been drawn
-//! first. The plant's people speak of names, not of ids.
+//! The plant editor: members are entered as soon as their classes stand, and the classes are linked late. The
+//! order does not matter; every member is in every class above its own, and the graph is the same as if the
+//! tree had been drawn first, which makes the classes too. The plant's people speak of names, not of ids.
 
 use std::error::Error;
 use vimelosa_host::{Graph, Names};
 
 const NAMES: &str = "2\tequipment\n3\tdrive\n4\tmotor\n20\tm1\n21\tm2\n";
+const CLASSES: [&str; 2] = ["insert class drive", "insert class motor"];
 const MEMBERS: [&str; 2] = ["insert member m1 motor", "insert member m2 drive"];
 const LINKS: [&str; 2] = ["insert subclass motor drive", "insert subclass drive equipment"];
 
@@ -27,7 +28,7 @@ fn members<'a>(graph: &Graph, names: &'a Names, class: &str) -> Vec<&'a str> {
 
 fn main() -> Result<(), Box<dyn Error>> {
     let names: Names = NAMES.parse()?;
-    let late = graph_of(&names, &[MEMBERS, LINKS].concat())?;
+    let late = graph_of(&names, &[CLASSES, MEMBERS, LINKS].concat())?;
     let early = graph_of(&names, &[LINKS, MEMBERS].concat())?;
     assert_eq!(late, early);
     println!("links drawn late or early: the same {} facts", late.count_facts());

@@ -100,7 +100,8 @@ enum vimelosa_kind {
     VIMELOSA_DOMAIN = 7,
     /* b is the range of property a, a class or 1. */
     VIMELOSA_RANGE = 8,
-    /* Individual a is a member of class b. */
+    /* Individual a is a member of class b. The ticket that inserts it does not make the class; those that
+     * insert a class, a subclass or a property make theirs. */
     VIMELOSA_MEMBER = 9,
     /* Individual a has the value b, an individual or a literal, for property c. */
     VIMELOSA_VALUE = 10
@@ -139,12 +140,16 @@ enum vimelosa_refusal {
     VIMELOSA_FEW_ANSWERS = 14,
     /* A line of the text is outside the profile: no fact has such a line, or it is of kind 10 and has b as
      * <urn:id:n> where another line has "n". */
-    VIMELOSA_OUTSIDE_PROFILE = 15
+    VIMELOSA_OUTSIDE_PROFILE = 15,
+    /* The ticket inserts a membership in a class that the graph does not have. Among a ticket's refusals it
+     * stands between 9 and 10. */
+    VIMELOSA_UNKNOWN_CLASS = 16
 };
 
 /* Applies one ticket to the image's graph and writes the new image to the output.
  *
- * Refusals, in this order: 12, 11, 3 of the image; 4, 5, 6, 7, 8, 9, 10, 11 of the ticket; 13 of the output.
+ * Refusals, in this order: 12, 11, 3 of the image; 4, 5, 6, 7, 8, 9, 16, 10, 11 of the ticket; 13 of the
+ * output.
  *
  * The result has four parts: vimelosa_answer, vimelosa_added and vimelosa_removed, which count facts, and
  * vimelosa_length, the new image's length. Bytes of the output after the new image are left as they were. */
@@ -154,8 +159,9 @@ uint64_t vimelosa_apply(const uint8_t *image, size_t image_length,
 
 /* Runs a list of tickets on the image's graph, each on what the one before left, and writes the image of what
  * the last leaves to the output. Every five bytes of `tickets` are a ticket; bytes left over at the end are
- * one more, which is refused with 4. Each ticket's number goes to its byte of `answers`: 0, or 4 to 11. A
- * refused ticket changes nothing, and the tickets after it are run all the same: the call is not refused.
+ * one more, which is refused with 4. Each ticket's number goes to its byte of `answers`: 0, or 4 to 11, or
+ * 16. A refused ticket changes nothing, and the tickets after it are run all the same: the call is not
+ * refused.
  *
  * Refusals of the call, in this order: 12, 11, 3 of the image; 14 of the answers; 13 of the output. With 13
  * too, every answer byte is left as it was.

@@ -54,10 +54,11 @@ pub struct AppliedList {
 ///
 /// # Errors
 ///
-/// Those of [`check_image`] for the image, 4 to 11 for the ticket ([`Refusal::BadLength`] to
-/// [`Refusal::TooMany`]), [`Refusal::ShortOutput`] for the output, in this order. The output is then as it
-/// was. For the rule of an inconsistent image the image is read once more, for the length of a short output
-/// the call is made once more. An output of [`LONGEST_IMAGE`] bytes is never too short.
+/// Those of [`check_image`] for the image, 4 to 9, 16, 10, 11 for the ticket ([`Refusal::BadLength`] to
+/// [`Refusal::UnknownProperty`], [`Refusal::UnknownClass`], [`Refusal::Clashing`], [`Refusal::TooMany`]),
+/// [`Refusal::ShortOutput`] for the output, in this order. The output is then as it was. For the rule of an
+/// inconsistent image the image is read once more, for the length of a short output the call is made once
+/// more. An output of [`LONGEST_IMAGE`] bytes is never too short.
 pub fn apply_ticket(image: &[u8], ticket: &[u8], output: &mut [u8]) -> Result<Applied, Refusal> {
     let [number, added, removed, length] = parts_of(call_raw(image, ticket, output));
     let again = |long_enough: &mut [u8]| call_raw(image, ticket, long_enough);
@@ -66,10 +67,10 @@ pub fn apply_ticket(image: &[u8], ticket: &[u8], output: &mut [u8]) -> Result<Ap
 }
 
 /// Applies tickets of five bytes each to an image, one after the other, and writes the image that they leave
-/// to the output. Each ticket's number goes to its answer byte: 0, or its refusal 4 to 11. Bytes left over at
-/// the end are one ticket, which gets 4. A refused ticket changes nothing and does not refuse the call. The
-/// image is read and checked once for all tickets; an output shorter than [`LONGEST_IMAGE`] has the list run
-/// twice, since it is tried first.
+/// to the output. Each ticket's number goes to its answer byte: 0, or its refusal, 4 to 11 or 16. Bytes left
+/// over at the end are one ticket, which gets 4. A refused ticket changes nothing and does not refuse the
+/// call. The image is read and checked once for all tickets; an output shorter than [`LONGEST_IMAGE`] has the
+/// list run twice, since it is tried first.
 ///
 /// ```
 /// use vimelosa_host::{apply_list, Graph, Refusal, LONGEST_IMAGE};

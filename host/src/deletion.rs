@@ -39,6 +39,7 @@ impl Ticket {
     /// ```
     /// use vimelosa_host::{Graph, Refusal, Ticket};
     /// let mut graph = Graph::fresh();
+    /// graph.apply(Ticket::insert_class(3))?;
     /// graph.apply(Ticket::insert_member(4, 3))?;
     /// graph.apply(Ticket::delete_individual(4))?;
     /// assert_eq!(graph.members_of(3).count(), 0);

@@ -53,15 +53,17 @@ impl Graph {
     /// ```
     /// use vimelosa_host::{Change, Graph, Refusal, Ticket};
     /// let mut graph = Graph::fresh();
-    /// graph.apply(Ticket::insert_member(4, 3))?;
+    /// assert_eq!(graph.apply(Ticket::insert_member(4, 3)), Err(Refusal::UnknownClass));
+    /// graph.apply(Ticket::insert_class(3))?;
+    /// assert_eq!(graph.apply(Ticket::insert_member(4, 3)), Ok(Change { added: 3, removed: 0 }));
     /// assert_eq!(graph.apply(Ticket::delete_class(3)), Ok(Change { added: 0, removed: 3 }));
-    /// assert_eq!(graph.apply(Ticket::insert_value(4, 5, 6)), Err(Refusal::UnknownProperty));
     /// # Ok::<(), Refusal>(())
     /// ```
     ///
     /// # Errors
     ///
-    /// 5 to 11, [`Refusal::BadOperation`] to [`Refusal::TooMany`]; the graph is then as it was.
+    /// 5 to 9, 16, 10, 11, in this order: [`Refusal::BadOperation`] to [`Refusal::UnknownProperty`],
+    /// [`Refusal::UnknownClass`], [`Refusal::Clashing`], [`Refusal::TooMany`]. The graph is then as it was.
     pub fn apply(&mut self, ticket: Ticket) -> Result<Change, Refusal> {
         let mut output = [0; LONGEST_IMAGE];
         let applied = apply_ticket(&self.image, &ticket.bytes(), &mut output)?;
@@ -91,6 +93,7 @@ impl Graph {
     /// ```
     /// use vimelosa_host::{Graph, Kind, Refusal, Ticket};
     /// let mut graph = Graph::fresh();
+    /// graph.apply(Ticket::insert_class(3))?;
     /// graph.apply(Ticket::insert_member(4, 3))?;
     /// assert_eq!(graph.body(Kind::Class), [0, 3]);
     /// assert_eq!(graph.body(Kind::Member), [4, 0, 4, 3]);
@@ -109,6 +112,7 @@ impl Graph {
     /// ```
     /// use vimelosa_host::{Fact, Graph, Kind, Refusal, Ticket};
     /// let mut graph = Graph::fresh();
+    /// graph.apply(Ticket::insert_class(3))?;
     /// graph.apply(Ticket::insert_member(4, 3))?;
     /// let members: Vec<Fact> = graph.facts(Kind::Member).collect();
     /// assert_eq!(members[1], Fact::Member { individual: 4, class: 3 });
@@ -139,7 +143,7 @@ impl Graph {
     /// use vimelosa_host::{Graph, Refusal, Ticket};
     /// let mut graph = Graph::fresh();
     /// assert_eq!(graph.count_facts(), 1);
-    /// graph.apply(Ticket::insert_member(4, 3))?;
+    /// graph.apply(Ticket::insert_subclass(3, 2))?;
     /// assert_eq!(graph.count_facts(), graph.all_facts().count());
     /// assert_eq!(graph.count_facts(), 6);
     /// # Ok::<(), Refusal>(())
@@ -153,7 +157,7 @@ impl Graph {
     /// ```
     /// use vimelosa_host::{Fact, Graph, Refusal, Ticket};
     /// let mut graph = Graph::fresh();
-    /// graph.apply(Ticket::insert_member(4, 3))?;
+    /// graph.apply(Ticket::insert_individual(4))?;
     /// assert!(graph.has(Fact::Individual(4)));
     /// assert!(!graph.has(Fact::Class(4)));
     /// # Ok::<(), Refusal>(())

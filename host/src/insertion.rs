@@ -18,7 +18,7 @@ impl Ticket {
         Ticket::of(INSERT, Kind::Class, [class, 0, 0])
     }
 
-    /// Makes a property with its domain and its range.
+    /// Makes a property with its domain and its range; unknown classes come into being.
     ///
     /// ```
     /// use vimelosa_host::{Graph, Range, Refusal, Ticket};
@@ -85,13 +85,17 @@ impl Ticket {
         Ticket::of(INSERT, Kind::Subproperty, [property, superproperty, 0])
     }
 
-    /// Puts an individual in a class; unknown ones come into being.
+    /// Puts an individual in a class, which has to be there; an unknown individual comes into being.
     ///
     /// ```
     /// use vimelosa_host::{Graph, Refusal, Ticket};
     /// let mut graph = Graph::fresh();
+    /// graph.apply(Ticket::insert_class(3))?;
     /// graph.apply(Ticket::insert_member(4, 3))?;
     /// assert!(graph.members_of(3).eq([4]));
+    ///
+    /// // A misspelt class does not come to life.
+    /// assert_eq!(graph.apply(Ticket::insert_member(4, 33)), Err(Refusal::UnknownClass));
     /// # Ok::<(), Refusal>(())
     /// ```
     pub fn insert_member(individual: u8, class: u8) -> Ticket {

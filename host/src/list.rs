@@ -33,9 +33,9 @@ impl fmt::Display for RefusedTicket {
 impl Error for RefusedTicket {}
 
 impl Graph {
-    /// Runs the tickets one after the other and answers for each. A refused ticket, which gets 5 to 11,
-    /// changes nothing, and those after it are run. The image is read and written once for each 65,535
-    /// tickets.
+    /// Runs the tickets one after the other and answers for each. A refused ticket, which gets what
+    /// [`Graph::apply`] refuses with, changes nothing, and those after it are run. The image is read and
+    /// written once for each 65,535 tickets.
     ///
     /// ```
     /// use vimelosa_host::{Fact, Graph, Refusal, Ticket};

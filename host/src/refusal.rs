@@ -1,13 +1,14 @@
-//! The reasons for which a call refuses, with document 01's numbers. Each has the name of the definition and
-//! of the library's constant: `badIds`, `BAD_IDS`, `BadIds`. docs/REFUSALS.md has who can cause it and which
-//! calls give it.
+//! The reasons for which a call refuses, with the numbers of documents 01 and 02. Each has the name of the
+//! definition and of the library's constant: `badIds`, `BAD_IDS`, `BadIds`. docs/REFUSALS.md has who can
+//! cause it and which calls give it.
 
 use crate::Rule;
 use std::error::Error;
 use std::fmt;
 
-/// Why a call refused, each with document 01's number and words. A refusal leaves all lent memory as it was.
-/// More will follow, 16 to 20, so a `match` on it has an arm for the others.
+/// Why a call refused, each with document 01's number and words, from 15 on with document 02's. A refusal
+/// leaves all lent memory as it was. More will follow, 17 to 20, so a `match` on it has an arm for the
+/// others.
 #[derive(Clone, Copy, PartialEq, Eq, Hash, Debug)]
 #[non_exhaustive]
 pub enum Refusal {
@@ -48,6 +49,8 @@ pub enum Refusal {
     FewAnswers,
     /// 15: a line of the text outside the profile of N-Triples.
     OutsideProfile,
+    /// 16: class unknown: inserting CI with b not a class of the table. It stands between 9 and 10.
+    UnknownClass,
 }
 
 /// The number of [`Refusal::Inconsistent`], whose rule it does not tell.
@@ -57,7 +60,7 @@ pub(crate) const INCONSISTENT: u16 = 3;
 pub(crate) const SHORT_OUTPUT: u16 = 13;
 
 /// The others, which their number tells.
-const TOLD_BY_NUMBER: [Refusal; 13] = [
+const TOLD_BY_NUMBER: [Refusal; 14] = [
     Refusal::BadSize,
     Refusal::BadLayout,
     Refusal::BadLength,
@@ -71,6 +74,7 @@ const TOLD_BY_NUMBER: [Refusal; 13] = [
     Refusal::Malformed,
     Refusal::FewAnswers,
     Refusal::OutsideProfile,
+    Refusal::UnknownClass,
 ];
 
 impl Refusal {
@@ -79,7 +83,7 @@ impl Refusal {
         TOLD_BY_NUMBER.into_iter().find(|refusal| refusal.number() == number)
     }
 
-    /// Document 01's number.
+    /// The number of document 01 or 02.
     ///
     /// ```
     /// use vimelosa_host::Refusal;
@@ -102,6 +106,7 @@ impl Refusal {
             Refusal::ShortOutput { .. } => SHORT_OUTPUT,
             Refusal::FewAnswers => 14,
             Refusal::OutsideProfile => 15,
+            Refusal::UnknownClass => 16,
         }
     }
 
@@ -128,6 +133,7 @@ impl Refusal {
             Refusal::ShortOutput { .. } => "The output is too short.",
             Refusal::FewAnswers => "There are fewer answer bytes than tickets, or more than 65,535 tickets.",
             Refusal::OutsideProfile => "A line of the text is outside the profile.",
+            Refusal::UnknownClass => "The ticket names a class that the graph does not have.",
         }
     }
 }

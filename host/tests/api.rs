@@ -12,7 +12,7 @@ use independent::fact::value;
 use independent::image::{facts_in, image_of};
 use independent::table::fresh_graph;
 use std::thread;
-use vector_files::{database, paper_cases, suite_cases};
+use vector_files::{class_cases, database, paper_cases, suite_cases};
 use vimelosa_host::{Change, Fact, Graph, Kind, Range, Refusal, RefusedTicket, Ticket};
 use vimelosa_host::{LONGEST_IMAGE, MOST_FACTS};
 
@@ -83,6 +83,15 @@ fn paper_cases_through_the_graph() {
         if let Some(count) = case.facts {
             assert_eq!(graph.count_facts(), count, "{}", case.name);
         }
+    }
+}
+
+#[test]
+fn class_cases_through_the_graph() {
+    for case in class_cases().into_iter().filter(|case| case.words == MOST_FACTS) {
+        let mut graph = Graph::fresh();
+        assert_eq!(run(&mut graph, &case.list), case.answers, "{}", case.name);
+        assert_eq!(words(&graph), case.left, "{}", case.name);
     }
 }
 

@@ -15,6 +15,8 @@ const PRINTED: &str = "\
 insert class 2: answer 0, added 2, removed 0, length 66, rest as lent 1
 delete Resource is guarded: 1
 delete Resource: answer 8, added 0, removed 0, length 0, rest as lent 1
+class 3 is unknown: 1
+insert member 4 of class 3: answer 16, added 0, removed 0, length 0, rest as lent 1
 the output is short: 1
 short output: answer 13, added 0, removed 0, length 0, rest as lent 1
 the answers are few: 1
@@ -189,7 +191,7 @@ fn refusals_of_document() -> Vec<(String, u16)> {
 fn the_refusals_of_the_header_are_those_of_the_document() {
     let refusals = numbers_of_header("refusal");
     let numbers: Vec<u16> = refusals.iter().map(|(_, number)| *number).collect();
-    assert_eq!(numbers, (1..=15).collect::<Vec<u16>>());
+    assert_eq!(numbers, (1..=16).collect::<Vec<u16>>());
     assert_eq!(refusals, refusals_of_document());
 }
 

@@ -1,4 +1,5 @@
-//! The cases of document 01 on the independent implementation, and every refusal in its place.
+//! The cases of document 01 on the independent implementation, and every refusal of documents 01 and 02 in
+//! its place.
 
 mod independent;
 mod vector_files;
@@ -145,7 +146,7 @@ fn mark_stands_only_as_a_range() {
 
 /// Each ticket on the table after P7, with the refusal it gets.
 #[test]
-fn ticket_refusals_4_to_10_in_order() {
+fn ticket_refusals_4_to_9_then_16_then_10() {
     let refused = [
         ("", 4),
         ("01010200", 4),
@@ -170,6 +171,18 @@ fn ticket_refusals_4_to_10_in_order() {
         ("0106050900", 9),
         ("0106090500", 9),
         ("0106090900", 9),
+        ("0109040900", 16),
+        ("0109040500", 16),
+        ("0109040600", 16),
+        ("0109040700", 16),
+        ("0109040400", 16),
+        ("0109090900", 16),
+        ("0109000900", 16),
+        ("0109030900", 16),
+        ("0109000200", 10),
+        ("0109050200", 10),
+        ("0109070200", 10),
+        ("0109000000", 10),
         ("0106050500", 10),
         ("0102050301", 10),
         ("0103020000", 10),
@@ -186,7 +199,9 @@ fn ticket_refusals_4_to_10_in_order() {
 
 #[test]
 fn what_is_there_or_gone_changes_nothing() {
-    for ticket in ["0101000000", "0102050201", "010a060705", "0206020000", "020a060709", "0202000000"] {
+    let there = ["0101000000", "0102050201", "010a060705", "0109060200"];
+    let gone = ["0206020000", "020a060709", "0202000000", "0209040200", "0209040900", "0209040500"];
+    for ticket in there.into_iter().chain(gone) {
         let mut table = table_after(7);
         assert_eq!(apply(&mut table, &bytes(ticket)), answer([0, 0, 0]), "{ticket}");
         assert_eq!(table, table_after(7));
@@ -194,11 +209,13 @@ fn what_is_there_or_gone_changes_nothing() {
 }
 
 #[test]
-fn clash_comes_before_a_full_table() {
+fn unknown_class_comes_before_a_clash_and_a_clash_before_a_full_table() {
     let mut table = table_after(7);
     table.truncate(words_of(&table).len());
-    assert_eq!(apply(&mut table, &bytes("0109030900")).number, 10);
-    assert_eq!(apply(&mut table, &bytes("0109040900")).number, 11);
+    assert_eq!(apply(&mut table, &bytes("0109030900")).number, 16);
+    assert_eq!(apply(&mut table, &bytes("0109040900")).number, 16);
+    assert_eq!(apply(&mut table, &bytes("0109030200")).number, 10);
+    assert_eq!(apply(&mut table, &bytes("0109040200")).number, 11);
     assert_eq!(apply(&mut table, &bytes("0101020000")).number, 0);
 }
 

@@ -9,6 +9,7 @@ fn readme_program_runs() -> Outcome {
     let (machine, pump, p7) = (2, 3, 4);
     let mut graph = Graph::fresh();
     graph.apply(Ticket::insert_class(machine))?;
+    graph.apply(Ticket::insert_class(pump))?;
 
     // Members first, their class under another afterwards: one list, one call, an answer for each ticket.
     let answers = graph.apply_all(&[Ticket::insert_member(p7, pump), Ticket::insert_subclass(pump, machine)]);

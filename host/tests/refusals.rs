@@ -108,3 +108,31 @@ fn tickets_that_name_something_by_id_1_are_refused() {
         assert_eq!(Graph::fresh().apply(ticket), Err(Refusal::BadIds), "{ticket:?}");
     }
 }
+
+/// A class is made by its own ticket, by a subclass link and by a property from it or to it; an individual, a
+/// literal or a property of its id makes none.
+#[test]
+fn members_need_a_class_that_is_there() {
+    let to_class = |class: u8| Range::class(class).unwrap();
+    let makers = [
+        Ticket::insert_class(3),
+        Ticket::insert_subclass(3, 2),
+        Ticket::insert_subclass(2, 3),
+        Ticket::insert_property(5, 3, Range::Literal),
+        Ticket::insert_property(5, 2, to_class(3)),
+    ];
+    let others = [
+        Ticket::insert_class(2),
+        Ticket::insert_individual(3),
+        Ticket::insert_literal(3),
+        Ticket::insert_property(3, 2, to_class(4)),
+        Ticket::insert_member(3, 0),
+    ];
+    let outcome = |before: Ticket| {
+        let mut graph = Graph::fresh();
+        graph.apply(before).unwrap();
+        graph.apply(Ticket::insert_member(20, 3)).map(|_| graph.members_of(3).eq([20]))
+    };
+    assert_eq!(makers.map(outcome), [Ok(true); 5]);
+    assert_eq!(others.map(outcome), [Err(Refusal::UnknownClass); 5]);
+}

@@ -12,6 +12,7 @@ use generator::graphs::image;
 use generator::tickets::{list, ticket, Ids, ALL_IDS, FEW, MANY, PLENTY};
 use generator::triples::{crowded_texts, longest_text, some_text};
 use generator::{calls, graphs, rounds, Random};
+use independent::fact::class;
 use independent::graph::Graph;
 use independent::{host, programs, table};
 use rivals::bit_rows::BitRows;
@@ -85,10 +86,14 @@ fn same_check(words: &[u32]) -> u8 {
     expected
 }
 
-fn same_program(list: &[u8]) {
+/// All three print the same; how often each answer comes in it is added up.
+fn same_program(list: &[u8], met: &mut [usize; 17]) {
     let expected = programs::print_answers(list);
     assert_eq!(printed::<Sorted>(list), expected, "{list:02x?}");
     assert_eq!(printed::<BitRows>(list), expected, "{list:02x?}");
+    for (answer, _) in expected.lines().filter_map(|line| line.split_once(' ')) {
+        met[answer.parse::<usize>().expect("an answer is a number")] += 1;
+    }
 }
 
 fn printed<R: Rival>(list: &[u8]) -> String {
@@ -125,6 +130,25 @@ fn host_calls_on_full_graphs() {
         for _ in 0..rounds(6) {
             same_call(&whole, &ticket(&mut random, &PLENTY), LONGEST_IMAGE);
         }
+    }
+}
+
+/// Members of each other among ids of all sorts and of none: 16 exactly where b is no class, with room and
+/// without.
+#[test]
+fn host_calls_on_members() {
+    let mut random = Random::for_test("rivals_on_members");
+    for (facts, answers) in [(300, [0, 10, 16]), (2048, [10, 11, 16])] {
+        let graph = graphs::filled(&mut random, facts);
+        let whole = image(&graph);
+        let mut met = [0; 17];
+        for _ in 0..rounds(80) {
+            let [a, b] = [(); 2].map(|_| random.pick(&[0, 2, 3, 14, 15, 25, 45, 61, 75, 100, 210, 255]));
+            let (number, _) = same_call(&whole, &[1, 9, a, b, 0], LONGEST_IMAGE);
+            assert_eq!(number as u16 == 16, !graph.has(class(b)), "{a} in {b}");
+            met[usize::from(number as u16)] += 1;
+        }
+        assert!(answers.iter().all(|answer| met[*answer] > 2), "{met:?}");
     }
 }
 
@@ -258,9 +282,11 @@ fn checks_of_tables_with_one_change() {
 #[test]
 fn program_one_on_random_lists() {
     let mut random = Random::for_test("rivals_on_random_lists");
+    let mut met = [0; 17];
     for round in 0..rounds(120) {
-        same_program(&list(&mut random, &ALL_IDS[round % 4], 80));
+        same_program(&list(&mut random, &ALL_IDS[round % 4], 80), &mut met);
     }
+    assert!([0, 9, 10, 16].iter().all(|answer| met[*answer] > 100), "{met:?}");
 }
 
 /// A ticket about links between four classes and five properties, or a value.
@@ -284,29 +310,35 @@ fn link_ticket(random: &mut Random) -> [u8; 5] {
 #[test]
 fn program_one_on_links() {
     let mut random = Random::for_test("rivals_on_links");
+    let mut met = [0; 17];
     for _ in 0..rounds(400) {
         let tickets: Vec<[u8; 5]> = (0..40).map(|_| link_ticket(&mut random)).collect();
-        same_program(&tickets.concat());
+        same_program(&tickets.concat(), &mut met);
     }
     for [low, high, from, to] in [[2, 3, 3, 2], [2, 3, 4, 5], [2, 3, 4, 2], [2, 3, 3, 5]] {
         let links = [[1, 5, 3, 4, 0], [1, 5, 5, 2, 0]];
         let properties = [[1, 2, 20, low, from], [1, 2, 21, high, to]];
         let list = [links, properties].concat().concat();
-        same_program(&[list, vec![1, 6, 20, 21, 0]].concat());
+        same_program(&[list, vec![1, 6, 20, 21, 0]].concat(), &mut met);
     }
+    assert!([0, 9, 10].iter().all(|answer| met[*answer] > 1000), "{met:?}");
 }
 
-/// Members of a deep tree until no more fits, then tickets of all sorts.
+/// Members of a tree's lowest class, which stands first, while the tree grows deep and until no more fits;
+/// then tickets of all sorts.
 #[test]
 fn program_one_on_full_tables() {
     let mut random = Random::for_test("rivals_on_full_tables");
+    let mut met = [0; 17];
     for _ in 0..rounds(2) {
         let mut tickets: Vec<[u8; 5]> = (2..16).map(|c| [1, 5, c, c + 1, 0]).collect();
         tickets.extend([[1, 2, 50, 16, 16], [1, 2, 51, 2, 1]]);
         tickets.extend((80..=140).map(|x| [1, 9, x, 2, 0]));
         random.shuffle(&mut tickets);
+        tickets.insert(0, [1, 1, 2, 0, 0]);
         tickets.extend((141..=230).map(|x| [1, 9, x, 2, 0]));
         let more = list(&mut random, &Ids { deletions: 12, ..PLENTY }, 60);
-        same_program(&[tickets.concat(), more].concat());
+        same_program(&[tickets.concat(), more].concat(), &mut met);
     }
+    assert!(met[11] > 50, "{met:?}");
 }

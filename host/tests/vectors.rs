@@ -1,19 +1,20 @@
-//! The vectors on the independent implementation: the W3C suites, the worked examples of the papers, and
-//! texts of triples.
+//! The vectors on the independent implementation: the W3C suites, the worked examples of the papers, members
+//! and their classes, and texts of triples.
 
 mod independent;
 mod vector_files;
 
 use independent::programs::{print_answers, run_tickets};
-use independent::table::MOST_WORDS;
+use independent::table::{fresh_table, MOST_WORDS};
+use independent::ticket::apply;
 use independent::triples::{read_triples, write_triples};
 use vector_files::{
-    database, ntriples_files, paper_cases, suite_cases, triples_cases, PaperCase, TriplesCase,
+    class_cases, database, ntriples_files, paper_cases, suite_cases, triples_cases, PaperCase, TriplesCase,
 };
 
 #[test]
-fn suites_have_47_cases_and_papers_70() {
-    assert_eq!((suite_cases().len(), paper_cases().len()), (47, 70));
+fn suites_have_57_cases_papers_72_and_classes_49() {
+    assert_eq!((suite_cases().len(), paper_cases().len(), class_cases().len()), (57, 72, 49));
 }
 
 #[test]
@@ -106,10 +107,47 @@ fn paper_cases_give_their_answers() {
 }
 
 #[test]
-fn database_rearranged_has_the_same_words() {
+fn class_cases_give_their_answers_and_leave_their_words() {
+    for case in class_cases() {
+        let mut found = fresh_table(case.words);
+        let answers = case.list.chunks(5).map(|ticket| apply(&mut found, ticket));
+        let answers: Vec<[usize; 3]> =
+            answers.map(|answer| [answer.number.into(), answer.added, answer.removed]).collect();
+        assert_eq!(answers, case.answers, "{}", case.name);
+        assert_eq!(found, table(&case.left, case.words), "{}", case.name);
+    }
+}
+
+/// Each has the tickets of the first list, each as often.
+#[test]
+fn rearranged_cases_have_the_same_tickets() {
+    let sorted = |list: &[u8]| {
+        let mut tickets: Vec<Vec<u8>> = list.chunks(5).map(<[u8]>::to_vec).collect();
+        tickets.sort_unstable();
+        tickets
+    };
+    let papers = paper_cases();
+    let rearranged = papers.iter().filter(|case| case.name.starts_with("D rearranged"));
+    assert_eq!(rearranged.clone().count(), 2);
+    for case in rearranged {
+        assert_eq!(sorted(&case.list), sorted(&papers[0].list), "{}", case.name);
+    }
+    let classes = class_cases();
+    let whole = classes.iter().find(|case| case.name == "a list in order").expect("the case is there");
+    let rearranged = classes.iter().filter(|case| case.name.starts_with("the list rearranged"));
+    assert_eq!(rearranged.clone().count(), 5);
+    for case in rearranged {
+        assert_eq!(sorted(&case.list), sorted(&whole.list), "{}", case.name);
+        let is_whole = case.answers.iter().all(|answer| answer[0] == 0);
+        assert_eq!(case.left == whole.left, is_whole, "{}", case.name);
+    }
+}
+
+#[test]
+fn database_rearranged_in_order_has_the_same_words() {
     let cases = paper_cases();
-    assert_eq!(cases[1].name, "D rearranged, the tree drawn last");
-    assert_eq!(run_tickets(&cases[0].list).1, run_tickets(&cases[1].list).1);
+    assert_eq!(cases[2].name, "D rearranged (2), members once their class stands");
+    assert_eq!(run_tickets(&cases[0].list).1, run_tickets(&cases[2].list).1);
 }
 
 #[test]

@@ -1,6 +1,7 @@
 //! `apply`: tickets run on the graph of an image, and the files saved.
 
 use crate::args;
+use crate::explain::Explainer;
 use crate::failure::{Answer, Failure, DONE, REFUSED};
 use crate::files::{Image, NamesFile};
 use crate::progress::Progress;
@@ -25,8 +26,13 @@ pub fn run(matches: &ArgMatches) -> Result<Answer, Failure> {
     let kept = kept_ids(&understood, &ran.graph);
     save(&image, &names, &understood.names, &kept, &ran.graph)?;
     let status = if ran.refused.is_empty() { DONE } else { REFUSED };
-    let text = report(&source, &image.graph, &ran) + &report_names(&understood.names, &kept);
-    Ok(Answer::of(text).with_status(status))
+    let explainer = Explainer::new(&source, &understood, &image.graph);
+    let text = [
+        report_refused(&source, &ran, explainer),
+        report_sum(&source, &image.graph, &ran),
+        report_names(&understood.names, &kept),
+    ];
+    Ok(Answer::of(text.concat()).with_status(status))
 }
 
 /// What a list left, and its refused tickets by their places.
@@ -67,14 +73,22 @@ fn run_piece(graph: &mut Graph, piece: &[Ticket], is_all_or_nothing: bool) -> Ve
     answers.filter_map(|(place, answer)| answer.err().map(|refusal| (place, refusal))).collect()
 }
 
-/// A line for each refused ticket, then the sum.
-fn report(source: &Source, before: &Graph, ran: &Ran) -> String {
+/// A line for each refused ticket, and another where there is more to say of it.
+fn report_refused(source: &Source, ran: &Ran, mut explainer: Explainer) -> String {
     let mut text = String::new();
     for &(place, refusal) in &ran.refused {
         let given = &source.given[place];
         let line = given.line.map(|line| format!("line {line}: ")).unwrap_or_default();
         text += &format!("{line}{}: {refusal}\n", given.words);
+        if let Some(more) = explainer.explain(place, refusal) {
+            text += &format!("{INDENT}{more}\n");
+        }
     }
+    text
+}
+
+/// How many tickets were accepted and refused, and what they changed.
+fn report_sum(source: &Source, before: &Graph, ran: &Ran) -> String {
     let (all, refused) = (source.given.len(), ran.refused.len());
     let sum = match ran.is_dropped {
         true => "nothing applied, since one was refused".to_owned(),
@@ -82,7 +96,7 @@ fn report(source: &Source, before: &Graph, ran: &Ran) -> String {
     };
     let diff = before.diff(&ran.graph);
     let (added, removed) = (count(diff.only_there.len(), "fact"), grouped(diff.only_here.len()));
-    text + &format!("{}: {sum}; {added} added, {removed} removed\n", count(all, "ticket"))
+    format!("{}: {sum}; {added} added, {removed} removed\n", count(all, "ticket"))
 }
 
 /// The new names, so that a misspelt one is seen; nothing if there is none.

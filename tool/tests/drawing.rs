@@ -46,7 +46,7 @@ fn names_with_signs() {
     folder.run(&["new", "a.img"]);
     let members = names.iter().map(|name| format!("insert member i{name} {name}\n"));
     let properties = names.iter().map(|name| format!("insert property p{name} {name} {name}\n"));
-    folder.write("a.tickets", members.chain(properties).collect::<String>());
+    folder.write("a.tickets", properties.chain(members).collect::<String>());
     assert_eq!(folder.run(&["apply", "a.img", "--file", "a.tickets"]).status, 0);
     let ran = folder.run(&["draw", "a.img"]);
     assert_eq!((ran.status, ran.stderr.as_str()), (0, ""));

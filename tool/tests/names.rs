@@ -32,7 +32,7 @@ fn new_names_take_the_lowest_free_id() {
 #[test]
 fn new_names_leave_the_ids_of_bytes() {
     let folder = fresh();
-    apply(&folder, "ticket 0103020000\ninsert class Pump\nticket 0109040500\n", 0);
+    apply(&folder, "ticket 0103020000\ninsert class Pump\nticket 0105040500\n", 0);
     assert_eq!(folder.text("a.img.names"), "3\tPump\n");
 }
 

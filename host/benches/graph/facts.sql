@@ -1,6 +1,6 @@
--- A table of facts whose triggers carry the side effects of an insertion. A clash raises 10 and an unknown
--- property 9, which undoes the statement. Deletion, the form of a ticket and the bound of 2,048 facts are not
--- here.
+-- A table of facts whose triggers carry the side effects of an insertion. A clash raises 10, an unknown
+-- property 9 and an unknown class 16, which undoes the statement. Deletion, the form of a ticket and the
+-- bound of 2,048 facts are not here.
 PRAGMA recursive_triggers = ON;
 CREATE TABLE fact (k INTEGER, a INTEGER, b INTEGER, c INTEGER, PRIMARY KEY (k, a, b, c)) WITHOUT ROWID;
 CREATE INDEX by_b ON fact (k, b);
@@ -55,9 +55,10 @@ CREATE TRIGGER ends AFTER INSERT ON fact WHEN NEW.k IN (7, 8) BEGIN
   INSERT OR IGNORE INTO fact SELECT 1, NEW.b, 0, 0 WHERE NEW.b <> 1;
 END;
 
--- Rules 11 and 26.
+-- Refusal 16, rules 11 and 26.
 CREATE TRIGGER member AFTER INSERT ON fact WHEN NEW.k = 9 BEGIN
-  INSERT OR IGNORE INTO fact VALUES (3, NEW.a, 0, 0), (1, NEW.b, 0, 0);
+  SELECT RAISE(ABORT, '16') WHERE NOT EXISTS (SELECT 1 FROM fact WHERE k = 1 AND a = NEW.b);
+  INSERT OR IGNORE INTO fact VALUES (3, NEW.a, 0, 0);
   INSERT OR IGNORE INTO fact SELECT 9, NEW.a, b, 0 FROM fact WHERE k = 5 AND a = NEW.b;
 END;
 

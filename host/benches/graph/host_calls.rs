@@ -3,14 +3,14 @@
 use crate::candidates::{HostCall, HOST_CALLS};
 use crate::clock::{interleaved, repeated, Readings, Run};
 use crate::settings::Settings;
-use crate::subjects::{Call, Subject};
+use crate::subjects::{Call, Subject, IN_MEAN};
 use crate::tables::Line;
 use vimelosa_host::LONGEST_IMAGE;
 
 /// What was measured on one graph.
 pub struct Measured {
     pub facts: usize,
-    /// A line for each ticket, and one for their mean.
+    /// A line for each ticket, and one for the mean.
     pub calls: Vec<Line>,
     pub mean: Line,
     pub read_and_check: Line,
@@ -44,7 +44,7 @@ impl Measured {
         let mut calls: Vec<Line> =
             each.map(|(call, own)| Line::of(format!("{graph}: {}", call.name), own)).collect();
         calls.pop();
-        let mean = Line::mean(format!("{graph}: mean of five"), &calls);
+        let mean = Line::mean(format!("{graph}: mean of five"), &calls[..IN_MEAN]);
         let read_and_check = Line::of(graph, &readings[readings.len() - HOST_CALLS.len()..]);
         Measured { facts, calls, mean, read_and_check }
     }

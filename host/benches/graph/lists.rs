@@ -2,7 +2,12 @@
 
 use crate::plant::{Bytes, Plant};
 use crate::rivals::fact::*;
+use crate::rivals::sorted::Sorted;
+use crate::rivals::Rival;
 use crate::sequence::Sequence;
+
+/// Refusal 16.
+const UNKNOWN_CLASS: u8 = 16;
 
 /// Tickets drawn from all bytes that come near: operation 1 or 2, kinds 1 to 10, ids 0 to 31. Most are
 /// refused.
@@ -15,7 +20,7 @@ pub fn mostly_bad(count: usize) -> Vec<u8> {
 }
 
 /// Plants that fill a table of 2,048 words, each taken down again by deletions, the last ticket first. Every
-/// second one is in any order that puts the properties first.
+/// second one is in any order that puts the properties first and a class before its members.
 pub fn plants(count: usize) -> Vec<u8> {
     plants_with(count, |tickets| [taken_down(tickets), cleared(tickets)].concat())
 }
@@ -34,11 +39,31 @@ fn plants_with(count: usize, deletions: fn(&[Bytes]) -> Vec<Bytes>) -> Vec<u8> {
         if seed % 2 == 0 {
             Sequence::of_seed(seed).shuffle(&mut tickets);
             tickets.sort_by_key(|ticket| ticket[1] != PROPERTY);
+            tickets = in_order(&tickets);
         }
         list.extend(tickets.concat());
         list.extend(deletions(&tickets).concat());
     }
     list
+}
+
+/// The same tickets, a member's held back until its class stands.
+fn in_order(tickets: &[Bytes]) -> Vec<Bytes> {
+    let (mut table, mut ordered, mut waiting) = (Sorted::fresh(), Vec::new(), Vec::new());
+    let mut run = |ticket: &Bytes| {
+        let stands = table.apply(ticket).number != UNKNOWN_CLASS;
+        ordered.extend(stands.then_some(*ticket));
+        stands
+    };
+    for ticket in tickets {
+        if run(ticket) {
+            waiting.retain(|member| !run(member));
+        } else {
+            waiting.push(*ticket);
+        }
+    }
+    assert!(waiting.is_empty(), "a class is not made");
+    ordered
 }
 
 /// Deletes what each ticket asked, the last first.
@@ -71,16 +96,25 @@ fn ids_of(sort: u8, &[_, kind, a, b, _]: &Bytes) -> Vec<u8> {
 }
 
 /// Insertions and deletions among 31 ids, one ticket in fifty bad: the graph stays small and tightly linked.
+/// Where a member comes into a class that the table lacks, the ticket before makes the class.
 pub fn dense(count: usize) -> Vec<u8> {
-    let mut random = Sequence::of_seed(1);
-    let mut list = Vec::new();
-    for _ in 0..count {
+    let (mut random, mut table, mut list) = (Sequence::of_seed(1), Sorted::fresh(), Vec::new());
+    while list.len() < 5 * count {
         let mut ticket = dense_ticket(&mut random);
         if random.is_one_in(50) {
             ticket[random.below(5)] = random.below(12) as u8;
         }
+        if table.apply(&ticket).number == UNKNOWN_CLASS {
+            let class = [1, CLASS, ticket[3], 0, 0];
+            let mut next = table.clone();
+            if [class, ticket].iter().all(|ticket| next.apply(ticket).number == 0) {
+                table = next;
+                list.extend(class);
+            }
+        }
         list.extend(ticket);
     }
+    list.truncate(5 * count);
     list
 }
 

@@ -18,6 +18,9 @@ const LAST_INDIVIDUAL: u8 = 254;
 /// An individual that no plant has.
 pub const NEW_INDIVIDUAL: u8 = 255;
 
+/// An id that no plant has, next to those of the classes.
+pub const NO_CLASS: u8 = FIRST_PROPERTY - 1;
+
 /// A class that stands under one of the roots in every plant.
 pub const SECOND_CLASS: u8 = FIRST_CLASS + ROOTS;
 

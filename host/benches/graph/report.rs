@@ -19,7 +19,8 @@ const TICKETS: &str =
     "An image is read and checked, a ticket applied, the new image written. The tickets: a \
                        new individual in a class, which leaves the graph with the facts stated; the same \
                        again; an unused byte that is not 0 (7); a class link that closes a circle (10); the \
-                       deletion of an individual.";
+                       deletion of an individual. The mean is of these five. Beside them a member of a class \
+                       that the graph lacks (16).";
 
 /// The lists for program one.
 const LISTS: &str =

@@ -1,7 +1,7 @@
 //! The graphs on which the host call is measured, each with its tickets.
 
 use crate::paper;
-use crate::plant::{Bytes, Plant, FIRST_INDIVIDUAL, NEW_INDIVIDUAL, SECOND_CLASS};
+use crate::plant::{Bytes, Plant, FIRST_INDIVIDUAL, NEW_INDIVIDUAL, NO_CLASS, SECOND_CLASS};
 use crate::rivals::fact::*;
 use crate::rivals::sorted::Sorted;
 use crate::rivals::Rival;
@@ -11,6 +11,9 @@ pub const SIZES: [usize; 5] = [128, 256, 512, 1024, 2048];
 
 /// A new individual in a class under a root: itself, and its membership in three classes.
 const ROOM: usize = 4;
+
+/// The mean is of a graph's first so many calls.
+pub const IN_MEAN: usize = 5;
 
 /// A graph and the tickets that are run on it.
 pub struct Subject {
@@ -27,6 +30,7 @@ struct Tickets {
     repeat: Bytes,
     clash: Bytes,
     deletion: Bytes,
+    unknown_class: Bytes,
 }
 
 /// One measured call: a name, an image and a ticket.
@@ -50,6 +54,7 @@ impl Subject {
             repeat: [1, MEMBER, 40, 2, 0],
             clash: [1, SUBCLASS, 6, 2, 0],
             deletion: [2, INDIVIDUAL, 40, 0, 0],
+            unknown_class: [1, MEMBER, 40, 7, 0],
         };
         Subject::of("paper (5,5)", table.image(), &table, tickets)
     }
@@ -67,6 +72,7 @@ impl Subject {
             repeat: insertion,
             clash: [1, SUBCLASS, plant.over(SECOND_CLASS), SECOND_CLASS, 0],
             deletion: [2, INDIVIDUAL, FIRST_INDIVIDUAL, 0, 0],
+            unknown_class: [1, MEMBER, NEW_INDIVIDUAL, NO_CLASS, 0],
         };
         Subject::of("plant", open, &table, tickets)
     }
@@ -79,8 +85,8 @@ impl Subject {
         &self.image
     }
 
-    /// The five calls whose mean is reported, and one that reads and checks the image before the ticket is
-    /// refused for its length.
+    /// The five calls whose mean is reported, one that names a class wrong, and one that reads and checks the
+    /// image before the ticket is refused for its length.
     pub fn calls(&self) -> Vec<Call<'_>> {
         let [operation, kind, a, b, _] = self.tickets.repeat;
         let bad_form = [operation, kind, a, b, 7];
@@ -90,6 +96,7 @@ impl Subject {
             call("bad form", &self.image, &bad_form, 7),
             call("clash", &self.image, &self.tickets.clash, 10),
             call("deletion", &self.image, &self.tickets.deletion, 0),
+            call("unknown class", &self.image, &self.tickets.unknown_class, 16),
             call("read and check", &self.image, &[], 4),
         ]
     }

@@ -20,7 +20,8 @@ fn after(refusal: &Refusal) -> Option<Refusal> {
         Refusal::Malformed => Refusal::ShortOutput { needed: 84 },
         Refusal::ShortOutput { .. } => Refusal::FewAnswers,
         Refusal::FewAnswers => Refusal::OutsideProfile,
-        Refusal::OutsideProfile => return None,
+        Refusal::OutsideProfile => Refusal::UnknownClass,
+        Refusal::UnknownClass => return None,
     };
     Some(next)
 }

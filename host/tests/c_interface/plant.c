@@ -105,6 +105,10 @@ static void single_calls(void) {
     result = vimelosa_apply(fresh, sizeof fresh, guarded, sizeof guarded, output, sizeof output);
     printf("delete Resource is guarded: %d\n", vimelosa_answer(result) == VIMELOSA_GUARDED);
     print_apply("delete Resource", result);
+    const uint8_t misspelt[VIMELOSA_TICKET] = {VIMELOSA_INSERT, VIMELOSA_MEMBER, 4, 3, 0};
+    result = vimelosa_apply(fresh, sizeof fresh, misspelt, sizeof misspelt, output, sizeof output);
+    printf("class 3 is unknown: %d\n", vimelosa_answer(result) == VIMELOSA_UNKNOWN_CLASS);
+    print_apply("insert member 4 of class 3", result);
     result = vimelosa_apply(fresh, sizeof fresh, tickets, VIMELOSA_TICKET, output, sizeof fresh);
     printf("the output is short: %d\n", vimelosa_answer(result) == VIMELOSA_SHORT_OUTPUT);
     print_apply("short output", result);

@@ -2,7 +2,7 @@
 
 use crate::generator::damage::{damaged, each_contents_byte_changed};
 use crate::generator::graphs::{broken, filled, grown, image, marked, overlong};
-use crate::generator::tickets::{list, records, Ids, ALL_IDS, FEW, MANY, PLENTY};
+use crate::generator::tickets::{list, misspelt, records, Ids, ALL_IDS, FEW, MANY, PLENTY};
 use crate::generator::{rounds, Random};
 use crate::guarded::same_list_call;
 use crate::independent::host::MOST_TICKETS;
@@ -23,7 +23,7 @@ pub fn fresh_image() -> Vec<u8> {
 #[test]
 fn on_growing_graphs() {
     let mut random = Random::for_test("list_call_on_growing_graphs");
-    let mut met = [0; 12];
+    let mut met = [0; 17];
     for round in 0..rounds(4) {
         let mut held = fresh_image();
         for count in 0..=120 {
@@ -40,7 +40,7 @@ fn on_growing_graphs() {
             held = listed.image().to_vec();
         }
     }
-    assert!([0, 4, 5, 6, 7, 8, 9, 10].iter().all(|number| met[*number] > 5), "{met:?}");
+    assert!([0, 4, 5, 6, 7, 8, 9, 10, 16].iter().all(|number| met[*number] > 5), "{met:?}");
 }
 
 /// The numbers of single calls one after another, each on the image that the one before left, and the image
@@ -144,15 +144,15 @@ fn on_overlong_images() {
     }
 }
 
-/// On full tables and nearly full ones a ticket gets 10 or 11, and deletions make room for others.
+/// On full tables and nearly full ones a ticket gets 10, 11 or 16, and deletions make room for others.
 #[test]
 fn on_full_tables() {
     let mut random = Random::for_test("list_call_on_full_tables");
-    let mut met = [0; 12];
+    let mut met = [0; 17];
     for round in 0..rounds(6) {
         let full = image(&filled(&mut random, [2048, 2047, 2040][round % 3]));
         let ids = Ids { deletions: 4, ..[MANY, PLENTY][round % 2] };
-        let list = list(&mut random, &ids, 30);
+        let list = [misspelt(&mut random, &ids, 5), list(&mut random, &ids, 30)].concat();
         let answers = count_tickets(&list);
         let listed = same_list_call(&full, &list, answers, LONGEST_IMAGE);
         for number in &listed.answers {
@@ -163,7 +163,7 @@ fn on_full_tables() {
             assert_eq!(same_list_call(&full, &list, answers, short).number, 13);
         }
     }
-    assert!([0, 10, 11].iter().all(|number| met[*number] > 5), "{met:?}");
+    assert!([0, 10, 11, 16].iter().all(|number| met[*number] > 5), "{met:?}");
 }
 
 /// As many tickets as the counts can count, all accepted, all refused, or some of each.

@@ -3,8 +3,9 @@
 use crate::generator::tickets::{list, Ids, ALL_IDS, PLENTY};
 use crate::generator::{rounds, Random};
 use crate::independent::programs::print_answers;
+use crate::independent::table::MOST_WORDS;
 use crate::process::Program;
-use crate::vector_files::{database, paper_cases, suite_cases};
+use crate::vector_files::{class_cases, database, paper_cases, suite_cases};
 
 fn assert_same(program: &Program, list: &[u8]) {
     assert_eq!(program.output(list), print_answers(list), "{list:02x?}");
@@ -20,14 +21,16 @@ fn on_random_lists() {
     }
 }
 
-/// Classes one under the other, linked before or after their first members; members until no more fits;
-/// literals for the last words; tickets that clash on the full table; then tickets of all sorts.
+/// A class; then classes one over the other above it, linked before or after its first members; members until
+/// no more fits; literals for the last words; tickets on the full table that clash or name an unknown class;
+/// then tickets of all sorts.
 fn filling_list(random: &mut Random) -> Vec<u8> {
     let depth = 14 + random.below(6) as u8;
     let mut tickets: Vec<[u8; 5]> = (2..depth).map(|c| [1, 5, c, c + 1, 0]).collect();
     tickets.extend([[1, 2, 50, depth, depth], [1, 2, 51, 2, 1]]);
     tickets.extend((80..=140).map(|x| [1, 9, x, 2, 0]));
     random.shuffle(&mut tickets);
+    tickets.insert(0, [1, 1, 2, 0, 0]);
     tickets.extend((141..=230).map(|x| [1, 9, x, 2, 0]));
     tickets.extend((231..=255).map(|x| [1, 4, x, 0, 0]));
     tickets.extend([
@@ -36,6 +39,9 @@ fn filling_list(random: &mut Random) -> Vec<u8> {
         [1, 9, 50, 2, 0],
         [1, 1, 51, 0, 0],
         [1, 10, 80, 81, 51],
+        [1, 9, 80, 60, 0],
+        [1, 9, 3, 60, 0],
+        [1, 9, 80, 50, 0],
     ]);
     let ids = Ids { deletions: 12, ..PLENTY };
     [tickets.concat(), list(random, &ids, 100)].concat()
@@ -51,14 +57,14 @@ fn on_lists_that_fill_the_table() {
 }
 
 #[test]
-fn lists_that_fill_the_table_meet_refusals_10_and_11() {
+fn lists_that_fill_the_table_meet_refusals_16_10_and_11() {
     let mut random = Random::for_test("program_one_fill");
     let printed = print_answers(&filling_list(&mut random));
     let count = |number: &str| printed.lines().filter(|line| line.starts_with(number)).count();
-    assert!(count("10 ") >= 5 && count("11 ") > 10, "{printed}");
+    assert!(count("16 ") >= 3 && count("10 ") >= 5 && count("11 ") > 10, "{printed}");
 }
 
-/// A chain of classes and one of properties, the links in any order.
+/// A chain of classes and one of properties, the links, a member and a value in any order.
 #[test]
 fn on_deep_trees() {
     let program = Program::one();
@@ -68,9 +74,10 @@ fn on_deep_trees() {
         tickets.extend((100..120).map(|p| [1, 6, p, p + 1, 0]));
         tickets.extend([[1, 9, 200, 2, 0], [1, 10, 200, 201, 100]]);
         random.shuffle(&mut tickets);
-        let properties: Vec<[u8; 5]> = (100..=120).map(|p| [1, 2, p, 40, 0]).collect();
+        let mut made: Vec<[u8; 5]> = (100..=120).map(|p| [1, 2, p, 40, 0]).collect();
+        made.push([1, 1, 2, 0, 0]);
         let deletions = [[2, 5, 2, 20, 0], [2, 6, 101, 110, 0], [2, 9, 200, 30, 0], [2, 1, 40, 0, 0]];
-        assert_same(&program, &[properties, tickets, deletions.to_vec()].concat().concat());
+        assert_same(&program, &[made, tickets, deletions.to_vec()].concat().concat());
     }
 }
 
@@ -115,5 +122,16 @@ fn on_the_papers() {
         if let Some(count) = case.facts {
             assert_eq!(*facts, count.to_string(), "{}", case.name);
         }
+    }
+}
+
+/// Those on 2,048 words, as many as the program has.
+#[test]
+fn on_the_classes() {
+    let program = Program::one();
+    for case in class_cases().iter().filter(|case| case.words == MOST_WORDS) {
+        let lines = case.answers.iter().map(|[n, a, r]| format!("{n} {a} {r}\n"));
+        let printed = format!("{}{}\n", lines.collect::<String>(), case.left.len());
+        assert_eq!(program.output(&case.list), printed, "{}", case.name);
     }
 }

@@ -7,6 +7,7 @@ use crate::generator::tickets::{any_ticket, ticket, Ids, ALL_IDS, FEW, PLENTY};
 use crate::generator::{rounds, Random};
 use crate::independent::script::run_script;
 use crate::process::Program;
+use crate::vector_files::class_cases;
 use std::collections::BTreeSet;
 
 fn assert_same(program: &Program, script: &str) {
@@ -45,7 +46,7 @@ fn random_scripts_meet_every_answer() {
         ("fresh", &[0, 1][..]),
         ("check", &[0, 1, 2, 3]),
         ("lookup", &[0, 1, 2]),
-        ("apply", &[0, 1, 2, 3, 4, 5, 6, 7, 8, 9, 10, 11]),
+        ("apply", &[0, 1, 2, 3, 4, 5, 6, 7, 8, 9, 10, 11, 16]),
         ("list", &[0, 1, 2, 3, 14]),
         ("each", &[0, 1, 2, 3, 14]),
         ("records", &[0, 1, 2, 3, 14]),
@@ -58,6 +59,22 @@ fn random_scripts_meet_every_answer() {
         }
     }
     assert!(["same 0", "same 1", "?"].iter().all(|line| met.contains(*line)));
+}
+
+/// The cases of members and their classes, on tables of their lengths.
+#[test]
+fn on_the_classes() {
+    let program = Program::calls();
+    for case in class_cases() {
+        let tickets = case.list.chunks(5).map(|ticket| format!("apply {}\n", hexadecimal(ticket)));
+        let table = format!("table {:04x} 00000000\nfresh\n", case.words);
+        let answers = case.answers.iter().map(|[n, a, r]| format!("apply {n} {a} {r}\n"));
+        let words: String = case.left.iter().map(|word| format!(" {word:08x}")).collect();
+        let script = table + &tickets.collect::<String>() + "words\n";
+        let printed = format!("table\nfresh 0\n{}words{words}\n", answers.collect::<String>());
+        assert_eq!(program.output(script.as_bytes()), printed, "{}", case.name);
+        assert_eq!(run_script(&script), printed, "{}", case.name);
+    }
 }
 
 /// Tables that are full or nearly so, and tickets, lists and images on them.

@@ -1,6 +1,6 @@
 //! Consistent graphs, small and full.
 
-use super::tickets::{ticket, Ids, MANY, PLENTY};
+use super::tickets::{ticket, ticket_with, Ids, MANY, PLENTY};
 use super::Random;
 use crate::independent::fact::*;
 use crate::independent::graph::Graph;
@@ -13,7 +13,7 @@ use crate::independent::ticket::{asked_by, changed};
 pub fn grown(random: &mut Random, ids: &Ids, tickets: usize, most: usize) -> Graph {
     let mut graph = fresh_graph();
     for _ in 0..tickets {
-        let asked = asked_by(&ticket(random, ids));
+        let asked = asked_by(&ticket_with(random, ids, &classes_of(&graph)));
         match asked.and_then(|asked| changed(&graph, &asked)) {
             Ok(new) if new.len() <= most => graph = new,
             _ => {}
@@ -107,9 +107,13 @@ pub fn filled(random: &mut Random, count: usize) -> Graph {
     graph
 }
 
+pub fn classes_of(graph: &Graph) -> Vec<u8> {
+    graph.of_kind(CLASS).map(|fact| fact.a).collect()
+}
+
 /// So many members of the graph's classes, of 120 individuals that only these draw.
 fn some_members(random: &mut Random, graph: &Graph, count: usize) -> Vec<Fact> {
-    let classes: Vec<u8> = graph.of_kind(CLASS).map(|fact| fact.a).collect();
+    let classes = classes_of(graph);
     let mut draw = || member(80 + random.below(120) as u8, random.pick(&classes));
     (0..count).map(|_| draw()).collect()
 }

@@ -50,12 +50,13 @@ fn add_mixed(random: &mut Random, tickets: &mut Vec<[u8; 5]>, length: usize) {
     }
 }
 
-/// Classes one under the other and members of the lowest, in any order.
+/// Classes one under the other and members of the lowest: its link first, which makes it, all others in any
+/// order.
 fn grown_tree(random: &mut Random) -> Vec<[u8; 5]> {
     let links = TREE.zip(TREE.skip(1)).map(|(low, high)| [1, 5, low, high, 0]);
     let members = LEAVES.map(|leaf| [1, 9, leaf, *TREE.start(), 0]);
     let mut tickets: Vec<[u8; 5]> = links.chain(members).collect();
-    random.shuffle(&mut tickets);
+    random.shuffle(&mut tickets[1..]);
     tickets
 }
 

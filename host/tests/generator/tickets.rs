@@ -95,10 +95,44 @@ pub fn ticket(random: &mut Random, ids: &Ids) -> [u8; 5] {
         5 if random.is_one_in(15) => [class(random, ids), class(random, ids), 0],
         5 => link(random, ids, ids.classes),
         6 => link(random, ids, ids.properties),
-        9 => [id(random, ids, ids.individuals), class(random, ids), 0],
+        9 => member(random, ids),
         _ => value(random, ids),
     };
     [operation, kind, a, b, c]
+}
+
+/// An individual in a class, or now and then in what is hardly one.
+fn member(random: &mut Random, ids: &Ids) -> [u8; 3] {
+    if random.is_one_in(8) {
+        return misspelt_member(random, ids);
+    }
+    [id(random, ids, ids.individuals), class(random, ids), 0]
+}
+
+/// An individual, or Resource, in what is hardly a class: an id of another sort, any id, or itself.
+fn misspelt_member(random: &mut Random, ids: &Ids) -> [u8; 3] {
+    let a = if random.is_one_in(4) { 0 } else { id(random, ids, ids.individuals) };
+    let sort = random.pick(&[ids.properties, ids.individuals, ids.literals]);
+    let (other, any) = (id(random, ids, sort), random.byte());
+    [a, random.pick(&[other, other, any, a]), 0]
+}
+
+/// So many insertions of members, few of them in a class.
+pub fn misspelt(random: &mut Random, ids: &Ids, count: usize) -> Vec<u8> {
+    let mut draw = || {
+        let [a, b, c] = misspelt_member(random, ids);
+        [1, 9, a, b, c]
+    };
+    (0..count).flat_map(|_| draw()).collect()
+}
+
+/// A ticket; three members in four are of one of these classes.
+pub fn ticket_with(random: &mut Random, ids: &Ids, classes: &[u8]) -> [u8; 5] {
+    let mut drawn = ticket(random, ids);
+    if drawn[1] == 9 && !random.is_one_in(4) {
+        drawn[3] = random.pick(classes);
+    }
+    drawn
 }
 
 /// A property with its domain and range. One in three has Resource at both ends, which most links allow; of
@@ -143,17 +177,18 @@ pub fn any_ticket(random: &mut Random, ids: &Ids) -> Vec<u8> {
     }
 }
 
-/// So many tickets, one in twenty bad.
+/// So many tickets, one in twenty bad. Most members are of classes that the tickets before may have made.
 pub fn records(random: &mut Random, ids: &Ids, count: usize) -> Vec<u8> {
-    let mut draw = || {
+    let (mut tickets, mut classes) = (Vec::new(), vec![0]);
+    for _ in 0..count {
         let is_bad = random.is_one_in(20);
-        if is_bad {
-            bad_ticket(random, ids)
-        } else {
-            ticket(random, ids)
+        let drawn = if is_bad { bad_ticket(random, ids) } else { ticket_with(random, ids, &classes) };
+        if let [1, 1 | 5, a, ..] = drawn {
+            classes.push(a);
         }
-    };
-    (0..count).flat_map(|_| draw()).collect()
+        tickets.extend(drawn);
+    }
+    tickets
 }
 
 /// A list of so many tickets, one in twenty bad, with up to four bytes left over.

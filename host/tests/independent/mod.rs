@@ -1,5 +1,5 @@
-//! The text of document 01, and of Ask 1 of document 02, in plain Rust, which the tests hold beside the
-//! proved calls. No code is shared with these: a graph is a set of facts, and each rule is the list of
+//! The text of document 01, and of Asks 1 and 2 of document 02, in plain Rust, which the tests hold beside
+//! the proved calls. No code is shared with these: a graph is a set of facts, and each rule is the list of
 //! demands that it makes of a graph. An insertion applies the rules again and again until they ask for
 //! nothing new; a deletion searches for the largest part and tries every choice that the rules leave; `brute`
 //! and `plain` try everything, and test both. It is slow and plain on purpose. Refusals are the documents'
@@ -16,6 +16,7 @@ pub mod host;
 pub mod image;
 pub mod insertion;
 pub mod list;
+pub mod order;
 pub mod plain;
 pub mod plain_triples;
 pub mod programs;

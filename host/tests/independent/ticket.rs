@@ -1,4 +1,4 @@
-//! One ticket on a table, with the refusals 1 to 11 in their order.
+//! One ticket on a table, with its refusals in their order: 1 to 9, 16, 10, 11.
 
 use super::deletion::largest;
 use super::fact::*;
@@ -73,13 +73,14 @@ pub fn asked_by(ticket: &[u8]) -> Result<Asked, u8> {
     })
 }
 
-/// The graph that the ticket leaves, or refusal 8, 9 or 10.
+/// The graph that the ticket leaves, or refusal 8, 9, 16 or 10.
 pub fn changed(old: &Graph, asked: &Asked) -> Result<Graph, u8> {
     match asked {
         Asked::Delete(fact) if is_guarded(*fact) => Err(8),
         Asked::Delete(fact) if !old.has(*fact) => Ok(old.clone()),
         Asked::Delete(fact) => Ok(largest(old, *fact).expect("there is a largest part")),
         Asked::Insert(facts) if uses_unknown_property(old, facts) => Err(9),
+        Asked::Insert(facts) if names_unknown_class(old, facts) => Err(16),
         Asked::Insert(facts) => smallest(old, facts).ok_or(10),
     }
 }
@@ -96,4 +97,9 @@ fn uses_unknown_property(graph: &Graph, asked: &[Fact]) -> bool {
         VALUE => !graph.has(property(fact.c)),
         _ => false,
     })
+}
+
+/// Refusal 16: CI names b.
+fn names_unknown_class(graph: &Graph, asked: &[Fact]) -> bool {
+    asked.iter().any(|fact| fact.kind == MEMBER && !graph.has(class(fact.b)))
 }

@@ -23,6 +23,15 @@ pub struct PaperCase {
     pub facts: Option<usize>,
 }
 
+/// Tickets on a fresh table of so many words, the answer, added and removed of each, and the words left.
+pub struct ClassCase {
+    pub name: &'static str,
+    pub words: usize,
+    pub list: Vec<u8>,
+    pub answers: Vec<[usize; 3]>,
+    pub left: Vec<u32>,
+}
+
 /// A call for triples: what it is given, what it is lent, its answer, and what it leaves if that is 0.
 pub enum TriplesCase {
     /// A text into so many words.
@@ -58,6 +67,18 @@ pub fn paper_cases() -> Vec<PaperCase> {
             list: tickets(columns[2]),
             answers: some(columns[3]).map(|text| parts(text).map(answer).collect()),
             facts: some(columns[4]).map(number),
+        })
+        .collect()
+}
+
+pub fn class_cases() -> Vec<ClassCase> {
+    lines(include_str!("../../../tests/vectors/classes.tsv"))
+        .map(|columns| ClassCase {
+            name: columns[0],
+            words: number(columns[1]),
+            list: tickets(columns[2]),
+            answers: parts(columns[3]).map(answer).collect(),
+            left: words(columns[4]),
         })
         .collect()
 }

@@ -1,5 +1,5 @@
-//! Refusals 9 and 10 by lookups. On a consistent table no chain of side effects has to be followed to find a
-//! clash: what an asked fact brings with it can only clash in the ways below.
+//! Refusals 9, 16 and 10 by lookups. On a consistent table no chain of side effects has to be followed to
+//! find a clash: what an asked fact brings with it can only clash in the ways below.
 
 use super::fact::*;
 use super::form::Ticket;
@@ -25,14 +25,20 @@ pub fn uses_unknown_property(table: &impl Lookups, t: &Ticket) -> bool {
     }
 }
 
-/// Refusal 10: no consistent graph holds the table and what the insertion asks.
+/// Refusal 16: the insertion makes a member of what is no class of the table.
+pub fn uses_unknown_class(table: &impl Lookups, t: &Ticket) -> bool {
+    t.kind == MEMBER && !table.is(CLASS, t.b)
+}
+
+/// Refusal 10, past 9 and 16: no consistent graph holds the table and what the insertion asks. The class of a
+/// new member is there, so only the member can be of another sort.
 pub fn clashes(table: &impl Lookups, t: &Ticket) -> bool {
     match t.kind {
         CLASS | INDIVIDUAL | LITERAL => is_other(table, t.kind, t.a),
         PROPERTY => property_clashes(table, t),
         SUBCLASS => subclass_clashes(table, t.a, t.b),
         SUBPROPERTY => subproperty_clashes(table, t.a, t.b),
-        MEMBER => t.a == t.b || is_other(table, INDIVIDUAL, t.a) || is_other(table, CLASS, t.b),
+        MEMBER => is_other(table, INDIVIDUAL, t.a),
         _ => value_clashes(table, t),
     }
 }

@@ -9,7 +9,7 @@ mod loaded;
 mod rows;
 mod set;
 
-use super::clash::{clashes, uses_unknown_property, Lookups};
+use super::clash::{clashes, uses_unknown_class, uses_unknown_property, Lookups};
 use super::fact::*;
 use super::form::ticket_of;
 use super::{Answer, Rival};
@@ -95,6 +95,9 @@ impl Rival for BitRows {
         }
         if uses_unknown_property(self, &asked) {
             return Answer::refused(9);
+        }
+        if uses_unknown_class(self, &asked) {
+            return Answer::refused(16);
         }
         if clashes(self, &asked) {
             return Answer::refused(10);

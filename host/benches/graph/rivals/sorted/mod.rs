@@ -5,7 +5,7 @@ mod deletion;
 pub(super) mod image;
 mod insertion;
 
-use super::clash::{clashes, uses_unknown_property, Lookups};
+use super::clash::{clashes, uses_unknown_class, uses_unknown_property, Lookups};
 use super::fact::*;
 use super::form::ticket_of;
 use super::{Answer, Rival};
@@ -120,6 +120,9 @@ impl Rival for Sorted {
         }
         if uses_unknown_property(self, &asked) {
             return Answer::refused(9);
+        }
+        if uses_unknown_class(self, &asked) {
+            return Answer::refused(16);
         }
         if clashes(self, &asked) {
             return Answer::refused(10);
