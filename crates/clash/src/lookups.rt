@@ -7,12 +7,13 @@ ghost use lib.Dec.{eqb};
 ghost use Rattle.rdfs.specs.Lists.{all};
 ghost use Rattle.rdfs.specs.Facts.{made, has};
 ghost use Rattle.rdfs.specs.Demands.{withA};
-ghost use Rattle.rdfs.specs.Deletion.{under};
 ghost use Rattle.rdfs.specs.Tickets.{asked, ticketOf};
 ghost use Rattle.rdfs.specs.Lookups.{otherRole, firstB, backwards, cycleOfTwo};
 ghost use Rattle.table.specs.Parts.{Shaped};
 ghost use Rattle.table.specs.Counted.{Id, factsOf};
-ghost use Rattle.clash.specs.Looked.{Looked, LookedSpan, firstWord};
+ghost use Rattle.exclusive.specs.Looked.{Looked};
+ghost use Rattle.clash.specs.Looked.{LookedSpan, firstWord};
+use exclusive::is_under;
 use table::BASE;
 use table::CLASS;
 use table::DOMAIN;
@@ -86,17 +87,6 @@ pub fn has_other_role(table: &[Word], count: usize, k: Word, x: Word) -> bool
     has_role_besides(table, count, k, LITERAL, x)
 }
 
-// Class x is class b, or below it.
-fn is_under(table: &[Word], count: usize, b: Word, x: Word) -> bool
-    requires table { ⌜ Looked (now table) count (b ∷ x ∷ []) ⌝ }
-    ensures answer { λ r. ⌜ r ≡ under (factsOf (now (table .entry))) 5 b x ⌝ }
-{
-    if x == b {
-        return true;
-    }
-    has_fact(table, count, SUBCLASS, x, b, 0)
-}
-
 // CSub(x,y) is wanted, and CSub(y,x) stands.
 pub fn is_backwards(table: &[Word], count: usize, x: Word, y: Word) -> bool
     requires table { ⌜ Looked (now table) count (x ∷ y ∷ []) ⌝ }
@@ -119,9 +109,9 @@ pub fn closes_cycle(table: &[Word], count: usize, x: Word, y: Word, z: Word, w: 
     if z == w {
         return false;
     }
-    let joined = is_under(table, count, z, y);
+    let joined = is_under(table, count, SUBCLASS, z, y);
     if joined {
-        return is_under(table, count, x, w);
+        return is_under(table, count, SUBCLASS, x, w);
     }
     false
 }

@@ -19,14 +19,18 @@ ghost use Rattle.rdfs.specs.Lookups.{
   noValue,
 };
 ghost use Rattle.table.specs.Counted.{factsOf};
-ghost use Rattle.clash.specs.Looked.{Looked};
+ghost use Rattle.exclusive.specs.Looked.{Looked};
 use crate::lookups::closes_cycle;
 use crate::lookups::first_b;
 use crate::lookups::has_other_role;
 use crate::lookups::has_property;
 use crate::lookups::is_backwards;
+use exclusive::has_two_holders;
+use exclusive::is_taken;
+use exclusive::shares_values;
 use table::CLASS;
 use table::DOMAIN;
+use table::EXCLUSIVE;
 use table::INDIVIDUAL;
 use table::LITERAL;
 use table::MARK;
@@ -157,8 +161,8 @@ fn class_link_clashes(table: &[Word], count: usize, a: Word, b: Word) -> bool
     is_no_link(table, count, a, b)
 }
 
-// PSub(a,b) clashes: a cycle, the mark against a class, or class links that its domains and ranges need by 22
-// and 23.
+// PSub(a,b) clashes: a cycle, the mark against a class, class links that its domains and ranges need by 22
+// and 23, or a value that would have two holders through an exclusive property, E2.
 fn property_link_clashes(table: &[Word], count: usize, a: Word, b: Word) -> bool
     requires table { ⌜ Looked (now table) count (a ∷ b ∷ []) ⌝ }
     ensures answer { λ r. ⌜ r ≡ propertyLinkClash (factsOf (now (table .entry))) a b ⌝ }
@@ -174,7 +178,11 @@ fn property_link_clashes(table: &[Word], count: usize, a: Word, b: Word) -> bool
     let y = first_b(table, count, DOMAIN, b);
     let z = first_b(table, count, RANGE, a);
     let w = first_b(table, count, RANGE, b);
-    ends_clash(table, count, x, y, z, w)
+    let ends = ends_clash(table, count, x, y, z, w);
+    if ends {
+        return true;
+    }
+    shares_values(table, count, a, b)
 }
 
 // b cannot be the value of a for property c: with the mark as range it is to be a literal, else an
@@ -194,7 +202,7 @@ fn is_no_value(table: &[Word], count: usize, a: Word, b: Word, c: Word) -> bool
     has_other_role(table, count, INDIVIDUAL, b)
 }
 
-// PI(a,b,c) clashes.
+// PI(a,b,c) clashes: by the roles of a and b, or by E2.
 fn value_clashes(table: &[Word], count: usize, a: Word, b: Word, c: Word) -> bool
     requires table { ⌜ Looked (now table) count (a ∷ b ∷ c ∷ []) ⌝ }
     ensures answer { λ r. ⌜ r ≡ valueClash (factsOf (now (table .entry))) a b c ⌝ }
@@ -203,7 +211,11 @@ fn value_clashes(table: &[Word], count: usize, a: Word, b: Word, c: Word) -> boo
     if subject {
         return true;
     }
-    is_no_value(table, count, a, b, c)
+    let value = is_no_value(table, count, a, b, c);
+    if value {
+        return true;
+    }
+    is_taken(table, count, a, b, c)
 }
 
 // The clash by lookups of an insertion of kind k: on a consistent table, past refusals 9 and 16, it is
@@ -219,6 +231,7 @@ pub fn clashes(table: &[Word], count: usize, k: Word, a: Word, b: Word, c: Word)
         SUBPROPERTY => property_link_clashes(table, count, a, b),
         MEMBER => has_other_role(table, count, INDIVIDUAL, a),
         VALUE => value_clashes(table, count, a, b, c),
+        EXCLUSIVE => has_two_holders(table, count, a),
         _ => has_other_role(table, count, k, a),
     }
 }

@@ -34,6 +34,8 @@ use Rattle.rdfs.specs.Rules.{
   h2,
   h3,
   h4,
+  e1,
+  e2,
 }
 use Rattle.consistency.specs.Order.{MetFirst, end, stop, pass}
 
@@ -68,6 +70,8 @@ meets-same G H to from h2 m = λ x p. let q =
     m x (from _ p) in ((λ k. q .0 (from _ k)), (λ k. q .1 (from _ k)), (λ k. q .2 (from _ k)))
 meets-same G H to from h3 m = λ x y z p q. to _ (m x y z (from _ p) (from _ q))
 meets-same G H to from h4 m = λ x y z w p q s. m x y z w (from _ p) (from _ q) (from _ s)
+meets-same G H to from e1 m = λ x p. to _ (m x (from _ p))
+meets-same G H to from e2 m = λ x y z w p q s. m x y z w (from _ p) (from _ q) (from _ s)
 
 pub met-same : (G H : Graph) → _⊑_ G H → _⊑_ H G → {l : List Rule} {n : ℕ} → MetFirst G l n → MetFirst H l n
 met-same G H to from end = end

@@ -1,7 +1,7 @@
 -- The visit of a list of rules: the rules before a place are met. How that goes on, how many are met when it stops, and what
 -- the rule at the place relies on. All rules in order are consistency. Assumes nothing.
 use Prim.Native.Nat.{ℕ, zero, suc, _+_, _≤_, _<_}
-use mathlib.Core.Path.{sym, subst}
+use mathlib.Core.Path.{_≡_, sym, subst}
 use mathlib.Core.Logic.{⊎-elim}
 use mathlib.Core.List.{List, [], _∷_}
 use native.Mathlib.Nat.{eq-or-lt-of-le}
@@ -9,10 +9,22 @@ use native.Mathlib.Omega.{arith}
 use lib.Dec.{lit≤}
 use lib.ListN.{length}
 use Rattle.rdfs.specs.Facts.{Graph}
-use Rattle.rdfs.specs.Rules.{Rule, Meets}
+use Rattle.rdfs.specs.Rules.{Rule, Meets, e2}
 use Rattle.rdfs.specs.Consistency.{Consistent}
 use Rattle.rules.specs.Earlier.{Earlier}
-use Rattle.consistency.specs.Order.{rulesInOrder, ruleAt, MetFirst, end, stop, pass, MeetsAll, none, also}
+use Rattle.consistency.specs.Order.{
+  rulesInOrder,
+  ruleAt,
+  MetFirst,
+  end,
+  stop,
+  pass,
+  indexedCount,
+  MetIndexed,
+  MeetsAll,
+  none,
+  also,
+}
 use Rattle.consistency.proofs.MetLaws.{met-all}
 
 -- Each rule before place i is met.
@@ -33,8 +45,8 @@ infixr 30 _⨾_
 _⨾_ : {A B : Type 0} → A → B → A × B
 a ⨾ b = (a, b)
 
-free : {A : Type 0} → A → Unit {0}
-free a = tt
+free : {A B : Type 0} → A → B → Unit {0}
+free a b = tt
 
 module _ (G : Graph) where
   pub visit-none : (l : List Rule) → MetBefore G l 0
@@ -55,16 +67,32 @@ module _ (G : Graph) where
   pub visit-ends : (l : List Rule) → MetBefore G l (length l) → MetFirst G l (length l)
   visit-ends l p = visit-stops l (length l) (omega arith) p (λ k. absurd (omega arith))
 
-  -- Most rules rely on none before them; rules 16 and 17, which five rely on, stand at places 12 and 13.
-  relied : EachPlace (λ i r. MetBefore G rulesInOrder i → Earlier G r) rulesInOrder
+  -- Most rules rely on none before them; rules 16 and 17, which five rely on, stand at places 12 and 13. E2 is not among those
+  -- that are tested by the index.
+  relied : EachPlace (λ i r. i < indexedCount → MetBefore G rulesInOrder i → Earlier G r) rulesInOrder
   relied =
       free ⨾ free ⨾ free ⨾ free ⨾ free ⨾ free ⨾ free ⨾
       free ⨾ free ⨾ free ⨾ free ⨾ free ⨾ free ⨾ free ⨾
-      free ⨾ free ⨾ free ⨾ free ⨾ (λ p. p 12 (lit≤ tt)) ⨾ (λ p. p 13 (lit≤ tt)) ⨾ free ⨾
-      (λ p. p 13 (lit≤ tt)) ⨾ free ⨾ free ⨾ free ⨾ free ⨾ (λ p. p 13 (lit≤ tt)) ⨾ (λ p. p 13 (lit≤ tt)) ⨾ tt
+      free ⨾ free ⨾ free ⨾ free ⨾ (λ h p. p 12 (lit≤ tt)) ⨾ (λ h p. p 13 (lit≤ tt)) ⨾ free ⨾
+      (λ h p. p 13 (lit≤ tt)) ⨾ free ⨾ free ⨾ free ⨾ free ⨾ (λ h p. p 13 (lit≤ tt)) ⨾ (λ h p. p 13 (lit≤ tt)) ⨾
+      free ⨾ (λ h. absurd (omega arith)) ⨾ tt
 
-  pub visit-earlier : (i : ℕ) → i < length rulesInOrder → MetBefore G rulesInOrder i → Earlier G (ruleAt rulesInOrder i)
-  visit-earlier i h p = each-at rulesInOrder (λ j r. MetBefore G rulesInOrder j → Earlier G r) relied i h p
+  pub visit-earlier : (i : ℕ) → i < indexedCount → MetBefore G rulesInOrder i → Earlier G (ruleAt rulesInOrder i)
+  visit-earlier i h p = each-at rulesInOrder (λ j r. j < indexedCount → MetBefore G rulesInOrder j → Earlier G r) relied i
+      (omega arith) h p
+
+  -- The visit of all but E2, and then E2.
+  pub indexed-stops : {n : ℕ} → MetIndexed G n → n < indexedCount → MetFirst G rulesInOrder n
+  indexed-stops {n} m h = visit-stops rulesInOrder n (omega (arith, m .within)) (m .before) (λ k. m .broken h)
+
+  pub indexed-ends : {n : ℕ} → MetIndexed G n → indexedCount ≤ n → Meets G e2 → MetFirst G rulesInOrder (indexedCount + 1)
+  indexed-ends {n} m h met = visit-ends rulesInOrder (visit-more rulesInOrder indexedCount
+      (λ j k. m .before j (omega (arith, h, k))) met)
+
+  pub indexed-breaks : {n : ℕ} → MetIndexed G n → indexedCount ≤ n → (Meets G e2 → ⊥) → MetFirst G rulesInOrder n
+  indexed-breaks {n} m h broken = visit-stops rulesInOrder n (omega (arith, m .within)) (m .before)
+      (λ k p. let e : n ≡ indexedCount = omega (arith, m .within, h) in
+      broken (subst (λ i. Meets G (ruleAt rulesInOrder i)) e p))
 
   met-at : (l : List Rule) → MeetsAll G l → MetBefore G l (length l)
   met-at [] none j h = absurd (omega arith)
@@ -79,7 +107,8 @@ module _ (G : Graph) where
           c .rule-4 ⨾ c .rule-5 ⨾ c .rule-6 ⨾ c .rule-7 ⨾ c .rule-8 ⨾ c .rule-9 ⨾ c .rule-10 ⨾
           c .rule-11 ⨾ c .rule-12 ⨾ c .rule-13 ⨾ c .rule-14 ⨾ c .rule-15 ⨾ c .rule-16 ⨾ c .rule-17 ⨾
           c .rule-18 ⨾ c .rule-19 ⨾ c .rule-20 ⨾ c .rule-21 ⨾ c .rule-22 ⨾ c .rule-23 ⨾ c .rule-24 ⨾
-          c .rule-25 ⨾ c .rule-26 ⨾ c .rule-27 ⨾ c .rule-h1 ⨾ c .rule-h2 ⨾ c .rule-h3 ⨾ c .rule-h4 ⨾ tt
+          c .rule-25 ⨾ c .rule-26 ⨾ c .rule-27 ⨾ c .rule-h1 ⨾ c .rule-h2 ⨾ c .rule-h3 ⨾ c .rule-h4 ⨾
+          c .rule-e1 ⨾ c .rule-e2 ⨾ tt
 
   pub all-consistent : MeetsAll G rulesInOrder → Consistent G
   all-consistent m =
@@ -113,4 +142,6 @@ module _ (G : Graph) where
         rule-h2 = at 25 (lit≤ tt);
         rule-h3 = at 26 (lit≤ tt);
         rule-h4 = at 27 (lit≤ tt);
+        rule-e1 = at 28 (lit≤ tt);
+        rule-e2 = at 29 (lit≤ tt);
       }

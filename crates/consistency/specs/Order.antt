@@ -1,5 +1,5 @@
 -- The rules in the paper's order, how many a graph meets before the first that it breaks, and which that is.
-use Prim.Native.Nat.{ℕ, suc}
+use Prim.Native.Nat.{ℕ, suc, _≤_, _<_}
 use mathlib.Core.List.{List, [], _∷_}
 use lib.ListN.{getD}
 use Rattle.rdfs.specs.Facts.{Graph}
@@ -34,18 +34,21 @@ use Rattle.rdfs.specs.Rules.{
   h2,
   h3,
   h4,
+  e1,
+  e2,
 }
 use Rattle.rules.specs.RuleOf.{ruleOf}
 use Rattle.consistency.specs.declared.Visited.{Visited}
 use Rattle.consistency.specs.declared.Visited.the-variants.{AllMet, Broken}
 
--- Fig. 3's rules 4 to 27 as printed, then H1 to H4.
+-- Fig. 3's rules 4 to 27 as printed, then H1 to H4, then E1 and E2.
 abbrev pub rulesInOrder : List Rule
 rulesInOrder =
     r4 ∷ r5 ∷ r6 ∷ r7 ∷ r8 ∷ r9 ∷ r10 ∷
     r11 ∷ r12 ∷ r13 ∷ r14 ∷ r15 ∷ r16 ∷ r17 ∷
     r18 ∷ r19 ∷ r20 ∷ r21 ∷ r22 ∷ r23 ∷ r24 ∷
-    r25 ∷ r26 ∷ r27 ∷ h1 ∷ h2 ∷ h3 ∷ h4 ∷ []
+    r25 ∷ r26 ∷ r27 ∷ h1 ∷ h2 ∷ h3 ∷ h4 ∷
+    e1 ∷ e2 ∷ []
 
 -- The rule at a place of a list, counted from 0.
 abbrev pub ruleAt : List Rule → ℕ → Rule
@@ -56,6 +59,16 @@ pub data MetFirst (G : Graph) : List Rule → ℕ → Type 0 where
   end : MetFirst G [] 0
   stop : {r : Rule} {l : List Rule} → (Meets G r → ⊥) → MetFirst G (r ∷ l) 0
   pass : {r : Rule} {l : List Rule} {n : ℕ} → Meets G r → MetFirst G l n → MetFirst G (r ∷ l) (suc n)
+
+-- How many rules stand before E2, the last: those that are tested by the index of spans.
+abbrev pub indexedCount : ℕ
+indexedCount = 29
+
+-- The same of these rules: n of them are met, and the one at n, if there is one, is broken.
+pub record MetIndexed (G : Graph) (n : ℕ) : Type 0 where
+  pub within : n ≤ indexedCount
+  pub before : (i : ℕ) → i < n → Meets G (ruleAt rulesInOrder i)
+  pub broken : n < indexedCount → Meets G (ruleAt rulesInOrder n) → ⊥
 
 -- Each rule of the list is met.
 pub data MeetsAll (G : Graph) : List Rule → Type 0 where

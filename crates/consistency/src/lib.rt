@@ -3,9 +3,11 @@
 // The public call is `check`. It has no `requires`: it says, for all inputs, what it answers; it writes
 // nothing. `count_met` and `first_broken` serve the crates above: on a table that is laid out, how many rules
 // are met before the first that is broken, and which that is. The crate assumes nothing. A call takes the
-// stack of the index and of a span's stamps, and some hundred bytes.
+// stack of the index and of a span's stamps, and some hundred bytes; rule E2's links and stamps take less,
+// and stand where the index stood.
 mod visit;
 
+use holders::all_exclusive;
 pub use rules::Rule;
 use spans::SPANS;
 use spans::fill_index;
@@ -13,6 +15,7 @@ use table::INCONSISTENT;
 use table::Word;
 use table::count_facts;
 use table::layout_refusal;
+use visit::INDEXED;
 use visit::RULES;
 use visit::rule_at;
 use visit::visit;
@@ -25,7 +28,9 @@ ghost use Rattle.rdfs.specs.Facts.{graph};
 ghost use Rattle.rdfs.specs.Words.{laidOut};
 ghost use Rattle.rdfs.specs.Refusals.{tableRefusal};
 ghost use Rattle.table.specs.Counted.{factsOf};
-ghost use Rattle.consistency.specs.Order.{rulesInOrder, MetFirst, Answers};
+ghost use Rattle.spans.specs.Spans.{FactWords};
+ghost use Rattle.spans.specs.Graphs.{graphOf};
+ghost use Rattle.consistency.specs.Order.{rulesInOrder, MetFirst, MetIndexed, Answers};
 
 // What a visit of all rules, one after another, finds.
 pub enum Visited {
@@ -33,6 +38,17 @@ pub enum Visited {
     AllMet,
     // The first that is broken.
     Broken(Rule),
+}
+
+// The same of the rules before E2, by an index of spans that is gone when it answers.
+fn count_indexed(words: &[Word]) -> usize
+    requires words { ⌜ FactWords (now words) ⌝ }
+    requires few { ⌜ length (now words) ≤ product .most ⌝ }
+    ensures answer { λ r. ⌜ MetIndexed (graphOf (now (words .entry))) r ⌝ }
+{
+    let mut index = [0u16; SPANS];
+    fill_index(words, &mut index);
+    visit(words, &index)
 }
 
 // How many rules, in the paper's order, a table meets before the first that it breaks; all if it breaks none.
@@ -43,9 +59,14 @@ pub fn count_met(table: &[Word]) -> usize
 {
     let count = count_facts(table);
     let words = &table[..count];
-    let mut index = [0u16; SPANS];
-    fill_index(words, &mut index);
-    visit(words, &index)
+    let met = count_indexed(words);
+    if met < INDEXED {
+        return met;
+    }
+    if all_exclusive(words) {
+        return RULES;
+    }
+    met
 }
 
 // The first rule that a table breaks.

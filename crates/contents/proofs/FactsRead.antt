@@ -44,7 +44,9 @@ is-kind (suc (suc (suc (suc (suc (suc (suc (suc (suc zero))))))))) h l =
     record { of-kind = λ a b c. refl; has-ids = λ a b c. refl; some = lit≤ tt; few = lit≤ tt }
 is-kind (suc (suc (suc (suc (suc (suc (suc (suc (suc (suc zero)))))))))) h l =
     record { of-kind = λ a b c. refl; has-ids = λ a b c. refl; some = lit≤ tt; few = lit≤ tt }
-is-kind (suc (suc (suc (suc (suc (suc (suc (suc (suc (suc (suc k))))))))))) h l = absurd (omega arith)
+is-kind (suc (suc (suc (suc (suc (suc (suc (suc (suc (suc (suc zero))))))))))) h l =
+    record { of-kind = λ a b c. refl; has-ids = λ a b c. refl; some = lit≤ tt; few = lit≤ tt }
+is-kind (suc (suc (suc (suc (suc (suc (suc (suc (suc (suc (suc (suc k)))))))))))) h l = absurd (omega arith)
 
 pub fact-kind : (f : Fact) → (1 ≤ kind f) × (kind f ≤ kindCount)
 fact-kind f = let s = parts-shaped f in (shaped-some s, shaped-within s)

@@ -12,7 +12,7 @@ use Rattle.rdfs.specs.Numbers.{product}
 use Rattle.rdfs.specs.Lists.{_∈_, member}
 use Rattle.rdfs.proofs.words.FactLaws.{member-in, in-member}
 use Rattle.table.proofs.TestAnswers.{is-true, is-false}
-use Rattle.contents.specs.ImageForm.{Form, Proper, factSize, kinds}
+use Rattle.contents.specs.ImageForm.{Form, imageForm, factSize, kinds}
 use Rattle.contents.specs.Legible.{Legible}
 use Rattle.contents.specs.WithinBytes.{HasEntry}
 use Rattle.contents.specs.Reading.{startAt, countAt, malformed, bodiless, bodyStart, bodySize}
@@ -22,6 +22,7 @@ use Rattle.contents.proofs.Grouped.{kinds-from}
 use Rattle.contents.proofs.ImageAgain.{body-placed}
 use Rattle.contents.proofs.ImagePlaces.{contents-entry}
 use Rattle.contents.proofs.Product.{well-contents}
+use Rattle.contents.proofs.ImageForms.{legible-given}
 
 or-none : (a b : Bool) → (a || b) ≡ false → (a ≡ false) × (b ≡ false)
 or-none false false e = (refl, refl)
@@ -41,21 +42,29 @@ module _ (F : Form) (bytes : List ℕ) (k : ℕ) where
 
   -- There is a body.
   pub record There : Type 0 where
+    pub form : Legible F
     pub here : bodiless product F bytes k ≡ false
     pub some : 1 ≤ k
     pub most : k ≤ F .entries
     pub right : Contents F bytes
 
-  pub there : Proper F → (r : Bool) → r ≡ not (bodiless product F bytes k) → not r ≡ false → There
-  there proper r e f =
+  pub there : F ≡ imageForm bytes → (r : Bool) → r ≡ not (bodiless product F bytes k) → not r ≡ false → There
+  there own r e f =
+      let legible : Legible F = legible-given bytes F own in
       let here : bodiless product F bytes k ≡ false = not-true (bodiless product F bytes k) (sym e ∙ not-false r f) in
       let both = or-none (malformed product F bytes) (not (member (kinds F) k)) here in
       let i : k ∈ kinds F = member-in (kinds F) k (subst T (sym (not-false (member (kinds F) k) (both .1))) tt) in
       let b = kinds-from 0 (F .entries) k i in
-      record { here = here; some = b .0; most = omega (arith, b .1); right = well-contents F proper bytes (both .0) }
+      record {
+        form = legible;
+        here = here;
+        some = b .0;
+        most = omega (arith, b .1);
+        right = well-contents F (legible .proper) bytes (both .0);
+      }
 
-  pub there-entry : Legible F → There → HasEntry F bytes k
-  there-entry legible h = contents-entry (record { form = legible; right = h .right }) k (h .some) (h .most)
+  pub there-entry : There → HasEntry F bytes k
+  there-entry h = contents-entry (record { form = h .form; right = h .right }) k (h .some) (h .most)
 
   -- Its size by its parts, and its end within the bytes.
   pub there-size : (size count : ℕ) → size ≡ factSize F k → count ≡ countAt F bytes k
@@ -84,3 +93,8 @@ module _ (F : Form) (bytes : List ℕ) (k : ℕ) where
         subst (λ b. IsPart whole part (cond b (length bytes) (startAt F bytes k))
         (cond b 0 (factSize F k * countAt F bytes k))) (sym e)
         (subst (λ n. IsPart whole part n (factSize F k * countAt F bytes k)) s (subst (IsPart whole part start) z h))
+
+    -- The part by a form that is the one the bytes are read in.
+    pub in-image-form : F ≡ imageForm bytes → IsPart whole part (bodyStart product F bytes k) (bodySize product F bytes k)
+        → IsPart whole part (bodyStart product (imageForm bytes) bytes k) (bodySize product (imageForm bytes) bytes k)
+    in-image-form e h = subst (λ G. IsPart whole part (bodyStart product G bytes k) (bodySize product G bytes k)) e h

@@ -24,50 +24,61 @@ use Rattle.rdfs.proofs.words.LaidOut.{laid-is-fact, laid-ascending, shape-laid}
 use Rattle.table.proofs.TestAnswers.{is-true, is-false}
 use Rattle.contents.specs.ImageForm.{Form, Proper, factSize, kinds}
 use Rattle.contents.specs.Image.{factKind, ofKind, bodyOf, imageOf}
-use Rattle.contents.specs.Reading.{Facts, startAt, countAt, idAt, wordsFrom, wordsIn, wordsOf}
+use Rattle.contents.specs.Reading.{Facts, HasEntries, startAt, countAt, idAt, wordsFrom, wordsIn, wordsOf}
 use Rattle.contents.specs.Reading.{malformed, bodiless, bodyStart, bodySize}
 use Rattle.contents.specs.Contents.{Contents}
 use Rattle.contents.proofs.InBytes.{AllBytes}
 use Rattle.contents.proofs.FactsRead.{fact-kind}
 use Rattle.contents.proofs.WordsRead.{Alike, words-read}
-use Rattle.contents.proofs.Grouped.{grouped}
+use Rattle.contents.proofs.Grouped.{kinds-from, grouped}
 use Rattle.contents.proofs.ImageRead.{Given, bodyOf-length, image-contents, image-given}
 use Rattle.contents.proofs.ImageAgain.{image-again}
 
-module _ (N : Numbers) (F : Form) (s : Sound N) (proper : Proper F) (many : kindCount ≤ F .entries) (l : List ℕ) (h : Facts N l)
-  where
-    facts-in : (w : ℕ) → w ∈ l → T (isFact N w)
-    facts-in w i = laid-is-fact N l (h .laid) w (subst (λ m. w ∈ m) (sym (h .full)) i)
+module _ (N : Numbers) (F : Form) (s : Sound N) (proper : Proper F) (l : List ℕ) (h : Facts N l) where
+  facts-in : (w : ℕ) → w ∈ l → T (isFact N w)
+  facts-in w i = laid-is-fact N l (h .laid) w (subst (λ m. w ∈ m) (sym (h .full)) i)
 
-    rising : Ascending l
-    rising = subst Ascending (h .full) (laid-ascending N l (h .laid))
+  rising : Ascending l
+  rising = subst Ascending (h .full) (laid-ascending N l (h .laid))
 
-    alike : (k : ℕ) → Alike N k (ofKind N k l)
-    alike k w i = let r = in-filter (λ x. eqb (factKind N x) k) l i in (facts-in w (r .0), eqb→eq (factKind N w) k (r .1))
+  alike : (k : ℕ) → Alike N k (ofKind N k l)
+  alike k w i = let r = in-filter (λ x. eqb (factKind N x) k) l i in (facts-in w (r .0), eqb→eq (factKind N w) k (r .1))
 
-    abbrev image : List ℕ
-    image = imageOf N F l
+  abbrev image : List ℕ
+  image = imageOf N F l
 
-    -- The entry of a kind gives the words of that kind.
-    kind-again : (k : ℕ) → k ∈ kinds F → wordsIn N F image k ≡ ofKind N k l
-    kind-again k i =
-        let g : Given N F image l k = image-given N F proper l k i in
-        ap (λ n. wordsFrom N F image k n (startAt F image k)) (g .count) ∙ words-read N F proper image k (ofKind N k l) (g .rest)
-        (startAt F image k) (alike k) (g .body)
+  -- The entry of a kind gives the words of that kind.
+  kind-again : (k : ℕ) → k ∈ kinds F → wordsIn N F image k ≡ ofKind N k l
+  kind-again k i =
+      let g : Given N F image l k = image-given N F proper l k i in
+      ap (λ n. wordsFrom N F image k n (startAt F image k)) (g .count) ∙ words-read N F proper image k (ofKind N k l) (g .rest)
+      (startAt F image k) (alike k) (g .body)
 
+  kinds-again : wordsOf N F image ≡ concatMap (λ k. ofKind N k l) (kinds F)
+  unfolding wordsOf
+  kinds-again = each (kinds F) kind-again
+    where
+      each : (ks : List ℕ) → ((k : ℕ) → k ∈ ks → wordsIn N F image k ≡ ofKind N k l) → concatMap (wordsIn N F image) ks
+          ≡ concatMap (λ k. ofKind N k l) ks
+      each [] f = refl
+      each (k ∷ ks) f = ap (λ a. a ++ concatMap (wordsIn N F image) ks) (f k (here refl))
+          ∙ ap (λ a. ofKind N k l ++ a) (each ks (λ x i. f x (there i)))
+
+  -- Words that their image gives again have an entry each.
+  pub again-entries : wordsOf N F image ≡ l → HasEntries N F l
+  again-entries e w i =
+      let g = in-concatMap (λ k. ofKind N k l) (kinds F) (subst (λ m. w ∈ m) (sym e ∙ kinds-again) i) in
+      let k : ℕ = g .0 in
+      let same : factKind N w ≡ k = alike k w (g .2) .1 in
+      omega (arith, same, kinds-from 0 (F .entries) k (g .1) .1)
+
+  module _ (entered : HasEntries N F l) where
     pub kinds-all : concatMap (λ k. ofKind N k l) (kinds F) ≡ l
-    kinds-all = grouped N s (F .entries) l rising (λ w i. let k = fact-kind (fact (N .base) w) in
-        (facts-in w i, omega (arith, k .1, many), k .0))
+    kinds-all =
+        grouped N s (F .entries) l rising (λ w i. (facts-in w i, entered w i, fact-kind (fact (N .base) w) .0))
 
     pub words-again : wordsOf N F image ≡ l
-    unfolding wordsOf
-    words-again = each (kinds F) kind-again ∙ kinds-all
-      where
-        each : (ks : List ℕ) → ((k : ℕ) → k ∈ ks → wordsIn N F image k ≡ ofKind N k l) → concatMap (wordsIn N F image) ks
-            ≡ concatMap (λ k. ofKind N k l) ks
-        each [] f = refl
-        each (k ∷ ks) f = ap (λ a. a ++ concatMap (wordsIn N F image) ks) (f k (here refl))
-            ∙ ap (λ a. ofKind N k l ++ a) (each ks (λ x i. f x (there i)))
+    words-again = kinds-again ∙ kinds-all
 
     pub written-well : malformed N F image ≡ false
     unfolding malformed
@@ -87,6 +98,10 @@ module _ (N : Numbers) (F : Form) (s : Sound N) (proper : Proper F) (many : kind
         ap (λ m. take (cond m 0 (factSize F k * countAt F image k)) (drop (cond m (length image) (startAt F image k)) image)) here
         ∙ (ap (λ n. take n (drop (startAt F image k) image)) size ∙ (ap (take (factSize F k * length (ofKind N k l))) (g .body)
         ∙ take-at (bodyOf N F l k) (g .rest) (factSize F k * length (ofKind N k l)) (bodyOf-length N F l k)))
+
+-- A form with an entry for each kind has entries for all words.
+pub all-entries : (N : Numbers) (F : Form) → kindCount ≤ F .entries → (l : List ℕ) → HasEntries N F l
+all-entries N F many l w i = omega (arith, many, fact-kind (fact (N .base) w) .1)
 
 -- Bytes that are well formed are the image of the words that they give, which are laid out.
 pub read-well : (N : Numbers) (F : Form) (bytes : List ℕ) → malformed N F bytes ≡ false
@@ -133,6 +148,15 @@ module _ (N : Numbers) (F : Form) (s : Sound N) (bytes : List ℕ) where
 
   pub words-full : filled (wordsOf N F bytes) ≡ wordsOf N F bytes
   words-full = filter-all (λ x. not (eqb x 0)) (wordsOf N F bytes) (λ w i. differs w 0 (λ e. omega (arith, e, words-some w i)))
+
+  -- The words of bytes that are well formed are facts, and each has an entry.
+  module _ (well : malformed N F bytes ≡ false) where
+    pub read-facts : Facts N (wordsOf N F bytes)
+    read-facts = record { laid = read-well N F bytes well .1; full = words-full }
+
+    pub read-entries : Proper F → HasEntries N F (wordsOf N F bytes)
+    read-entries proper = again-entries N F s proper (wordsOf N F bytes) read-facts
+        (ap (wordsOf N F) (sym (read-well N F bytes well .0)))
 
 -- The words of a table before its zeros.
 pub filled-facts : (N : Numbers) → Sound N → (t : List ℕ) → T (laidOut N 1 t) → Facts N (filled t)

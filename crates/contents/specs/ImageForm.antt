@@ -1,7 +1,11 @@
 -- The numbers of an image's form, in one place, and numbers in bytes. Definitions and theorems take the form
 -- as a parameter.
 use Prim.Native.Nat.{ℕ, zero, suc, _+_, _*_, _-_, _/_, _%_, _^_, _<_, max}
+use mathlib.Core.Path.{_≡_}
+use mathlib.Core.Bool.{cond}
 use mathlib.Core.List.{List, [], _∷_, map}
+use lib.Dec.{eqb}
+use lib.ListN.{getD}
 use Rattle.rdfs.specs.Numbers.{kindCount, arity}
 
 -- The edition; how many entries the contents have, one for each kind from 1 on; the bytes of an id; the bytes
@@ -12,9 +16,21 @@ pub record Form : Type 0 where
   pub idSize : ℕ
   pub fieldSize : ℕ
 
--- The product's values.
+-- The product's values: the form that is written.
 abbrev pub form : Form
 form = record { edition = 1; entries = kindCount; idSize = 1; fieldSize = 2 }
+
+-- The form with ten entries, which is read too: it has none for kind 11.
+abbrev pub tenForm : Form
+tenForm = record { edition = 1; entries = 10; idSize = 1; fieldSize = 2 }
+
+-- Bytes give ten as the number of their entries.
+abbrev pub TenEntries : List ℕ → Type 0
+TenEntries bytes = getD bytes 1 0 ≡ tenForm .entries
+
+-- The form that bytes are read in, by the number of entries that they give.
+unfoldable pub imageForm : List ℕ → Form
+imageForm bytes = cond (eqb (getD bytes 1 0) (tenForm .entries)) tenForm form
 
 -- The bytes of a fact of kind k in a body: its ids only.
 abbrev pub factSize : Form → ℕ → ℕ

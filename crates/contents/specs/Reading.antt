@@ -1,22 +1,26 @@
 -- The words that the contents and bodies of some bytes give, which bytes are an image, and where a body lies.
-use Prim.Native.Nat.{ℕ, zero, suc, _+_, _*_}
+use Prim.Native.Nat.{ℕ, zero, suc, _+_, _*_, _≤_}
 use mathlib.Core.Path.{_≡_}
 use mathlib.Core.Bool.{Bool, not, _&&_, _||_, cond}
 use mathlib.Core.List.{List, [], _∷_}
 use lib.Dec.{T}
 use lib.ListN.{length, take, drop}
 use Rattle.rdfs.specs.Numbers.{Numbers}
-use Rattle.rdfs.specs.Lists.{concatMap, member}
+use Rattle.rdfs.specs.Lists.{_∈_, concatMap, member}
 use Rattle.rdfs.specs.Facts.{made}
 use Rattle.rdfs.specs.Words.{word, laidOut, filled}
 use Rattle.rdfs.specs.Orders.{sameBytes}
 use Rattle.contents.specs.ImageForm.{Form, factSize, entryAt, kinds, fromBytes}
-use Rattle.contents.specs.Image.{imageOf}
+use Rattle.contents.specs.Image.{factKind, imageOf}
 
 -- The words are facts, ascending, none twice, with no zeros after them.
 pub record Facts (N : Numbers) (l : List ℕ) : Type 0 where
   pub laid : T (laidOut N 1 l)
   pub full : filled l ≡ l
+
+-- The kind of each word has an entry.
+abbrev pub HasEntries : Numbers → Form → List ℕ → Type 0
+HasEntries N F l = (w : ℕ) → w ∈ l → factKind N w ≤ F .entries
 
 -- The number in n bytes from place i on.
 abbrev pub numberAt : ℕ → List ℕ → ℕ → ℕ

@@ -2,7 +2,15 @@
 ghost use mathlib.Core.Path.{_≡_};
 ghost use Prim.Native.Nat.{_+_, _*_, _≤_};
 ghost use Rattle.rdfs.specs.Numbers.{product};
-ghost use Rattle.contents.specs.ImageForm.{form, factSize, largestFact, entrySize, entryAt, firstBody};
+ghost use Rattle.contents.specs.ImageForm.{
+  form,
+  imageForm,
+  factSize,
+  largestFact,
+  entrySize,
+  entryAt,
+  firstBody,
+};
 ghost use Rattle.contents.specs.Legible.{formOf, factBytes, Legible};
 use table::KINDS;
 use table::MOST;
@@ -21,10 +29,18 @@ pub struct Form {
     pub field_size: usize,
 }
 
-// The product's form.
+// The product's form, which is written.
 pub const FORM: Form = Form {
     edition: 1,
     entries: KINDS,
+    id_size: 1,
+    field_size: 2,
+};
+
+// The form with ten entries, which is read too: it has none for kind 11.
+const TEN_FORM: Form = Form {
+    edition: 1,
+    entries: 10,
     id_size: 1,
     field_size: 2,
 };
@@ -36,7 +52,7 @@ const HEADER: usize = 2;
 pub const BEFORE_FIELDS: usize = 2;
 
 // In the product's form: the place of the first body, the most bytes of a fact, and the most of an image.
-pub const FIRST_BODY: usize = 62;
+pub const FIRST_BODY: usize = 68;
 
 const LARGEST_FACT: usize = 3;
 
@@ -53,6 +69,19 @@ pub fn longest_image() -> usize
     ensures answer { λ r. ⌜ r ≡ firstBody form + largestFact form * product .most ⌝ }
 {
     LONGEST
+}
+
+// The form that an image is read in, by the number of entries that it gives: ten, or the product's.
+pub fn form_of(image: &[u8]) -> Form
+    ensures answer { λ r. ⌜ formOf r ≡ imageForm (now (image .entry)) ⌝ }
+{
+    if image.len() < HEADER {
+        return FORM;
+    }
+    if image[1] as Word == TEN_FORM.entries {
+        return TEN_FORM;
+    }
+    FORM
 }
 
 // The bytes of a fact of kind k.

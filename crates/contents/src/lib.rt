@@ -1,10 +1,11 @@
 // The form of an image: contents, then one body for each kind. Whether some bytes are an image, what their
-// entries and bodies give, and a kind's body as a part of them.
+// entries and bodies give, and a kind's body as a part of them. The product's form has eleven entries; images
+// with ten are read too.
 //
 // The public call is `body`, which crate `image` passes on. It has no `requires`: it says, for all bytes and
-// all numbers, where its part lies and what it holds, in the product's form. The rest serves crates
-// `writing`, `reading` and `image`: it takes the form as an argument, and has a `requires` for it and where
-// it reads an entry or a body. The crate assumes nothing.
+// all numbers, where its part lies and what it holds, in the form that the bytes are read in. The rest serves
+// crates `writing`, `reading` and `image`: it takes the form as an argument, and has a `requires` for it and
+// where it reads an entry or a body. The crate assumes nothing.
 ghost use Rattle.contents.specs.BodyPromise.{BodyPromise};
 
 mod bodies;
@@ -26,22 +27,25 @@ pub use form::LONGEST;
 pub use form::entry_at;
 pub use form::fact_size;
 pub use form::first_body;
+pub use form::form_of;
 use table::Word;
 
-// The body of a kind, as a part of the image. If the image is malformed or the number is no kind, the empty
-// part at the image's end. An empty body of a good image is the empty part at its own start.
+// The body of a kind, as a part of the image. If the image is malformed, the number is no kind, or it is 11
+// and the image has ten entries, the empty part at the image's end. An empty body of a good image is the
+// empty part at its own start.
 pub fn body(image: &[u8], kind: u8) -> &[u8]
     ensures promise { λ r. ⌜ BodyPromise (image .entry) kind r ⌝ }
 {
     let k = kind as Word;
-    let there = has_body(FORM, image, k);
+    let form = form_of(image);
+    let there = has_body(form, image, k);
     let end = image.len();
     if !there {
         return &image[end..end];
     }
-    let from = start_at(FORM, image, k);
-    let size = fact_size(FORM, k);
-    let count = count_at(FORM, image, k);
+    let from = start_at(form, image, k);
+    let size = fact_size(form, k);
+    let count = count_at(form, image, k);
     let to = from + size * count;
     &image[from..to]
 }

@@ -11,7 +11,7 @@ use Rattle.rdfs.proofs.tickets.Steps.{checked-table}
 use Rattle.reading.specs.ReadPromise.{readAnswer, readWords}
 use Rattle.triples.specs.ReadTriples.{readTriplesAnswer, readTriplesWords}
 use Rattle.triples.proofs.TriplesTheorems.{reads-as-sound}
-use Rattle.image.proofs.ImageTheorems.{read-writes}
+use Rattle.image.proofs.ImageTheorems.{read-as}
 use Rattle.exchange.specs.ToText.{room}
 
 -- By a refusal, what was there is kept; for 0 the new is left.
@@ -25,7 +25,7 @@ passed-leaves n new old e = ap (λ b. cond b new old) (eq-eqb n 0 e)
 pub read-table : (image : List ℕ) (n : ℕ) {w : List ℕ} → n ≡ readAnswer room image → n ≡ 0 → w ≡ readWords room image
     → Table product w
 read-table image n e z h =
-    subst (Table product) (sym h) (checked-table product (readWords room image) (sym (read-writes room image (sym z ∙ e) .1)))
+    subst (Table product) (sym h) (checked-table product (readWords room image) (sym (read-as room image (sym z ∙ e) .passes)))
 
 pub read-text-table : (text : List ℕ) (n : ℕ) {w : List ℕ} → n ≡ readTriplesAnswer room text → n ≡ 0
     → w ≡ readTriplesWords room text → Table product w

@@ -16,11 +16,11 @@ use Rattle.rdfs.specs.Refusals.{orElse, firstOr, firstTrue, inconsistent}
 use Rattle.rdfs.specs.Register.{Table}
 use Rattle.rdfs.proofs.tickets.FirstTrue.{distinct, rest-answers, first-stops}
 use Rattle.rdfs.proofs.tickets.Steps.{table-passes}
-use Rattle.contents.specs.ImageForm.{form}
-use Rattle.contents.specs.Reading.{wordsOf, malformed}
+use Rattle.contents.specs.ImageForm.{TenEntries, imageForm}
+use Rattle.contents.specs.Reading.{malformed}
 use Rattle.writing.specs.WritePromise.{tableImage, writeAnswer, writeLength, writeBytes}
 use Rattle.writing.proofs.WriteCall.{write-taken}
-use Rattle.reading.specs.ReadPromise.{imageTests, readAnswer, readWords}
+use Rattle.reading.specs.ReadPromise.{imageWords, imageTests, readAnswer, readWords}
 use Rattle.reading.proofs.ReadCall.{read-length}
 use Rattle.image.proofs.ImageTheorems.{read-writes}
 use Rattle.triples.specs.Lone.{isLone}
@@ -72,12 +72,12 @@ module _ (image output : List ℕ) (text : Text) (out : List ℕ) (p : ToTextPro
   t = readWords room image
 
   -- The answer is the first of these refusals; 0 if there is none.
-  pub to-text-order : text .answer ≡ orElse (malformed product form image) 12
-      (orElse (ltb (product .most) (length (wordsOf product form image))) 11
-      (orElse (inconsistent product (wordsOf product form image)) 3 (orElse (ltb (length output) (length (tableText t))) 13 0)))
+  pub to-text-order : text .answer ≡ orElse (malformed product (imageForm image) image) 12
+      (orElse (ltb (product .most) (length (imageWords image))) 11
+      (orElse (inconsistent product (imageWords image)) 3 (orElse (ltb (length output) (length (tableText t))) 13 0)))
   to-text-order =
       let l : List (ℕ × Bool) =
-      imageTests image (product .most) ++ ((3, inconsistent product (wordsOf product form image)) ∷ []) in
+      imageTests image (product .most) ++ ((3, inconsistent product (imageWords image)) ∷ []) in
       let last : ℕ = orElse (ltb (length output) (length (tableText t))) 13 0 in
       p .answer-is ∙ in-turn l tt (writeTriplesAnswer t output) last
       (λ z. table-passes product t (read-table image (readAnswer room image) refl z refl) last)
@@ -100,11 +100,12 @@ module _ (image output : List ℕ) (text : Text) (out : List ℕ) (p : ToTextPro
         ∙ passed-leaves (readAnswer room image) (writeTriplesBytes t output) output (passed .0))
         ∙ written-taken t output (passed .1))
 
-    -- Turned into an image again, into any output that is long enough, it is the image that it came from, if no literal is lone.
-    pub text-image-again : any (isLone (facts product t)) (facts product t) ≡ false → (output′ : List ℕ) (imaged : Imaged)
-        (out′ : List ℕ) → ToImagePromise (take (text .length) out) output′ imaged out′ → length image ≤ length output′
-        → (imaged .answer ≡ 0) × (take (imaged .length) out′ ≡ image)
-    text-image-again lone output′ imaged out′ q fits =
+    -- Turned into an image again, into any output that is long enough, it is the image that writing gives for the table, if no
+    -- literal is lone.
+    pub text-image-written : any (isLone (facts product t)) (facts product t) ≡ false → (output′ : List ℕ) (imaged : Imaged)
+        (out′ : List ℕ) → ToImagePromise (take (text .length) out) output′ imaged out′ → length (tableImage t) ≤ length output′
+        → (imaged .answer ≡ 0) × (take (imaged .length) out′ ≡ tableImage t)
+    text-image-written lone output′ imaged out′ q short =
         let table : Table product t = read-table image (readAnswer room image) refl (passed .0) refl in
         let back = reads-as-complete room (tableText t) t record {
           table = table;
@@ -115,8 +116,6 @@ module _ (image output : List ℕ) (text : Text) (out : List ℕ) (p : ToTextPro
         } in
         let again : readTriplesAnswer room (take (text .length) out) ≡ 0 = ap (readTriplesAnswer room) to-text-is ∙ back .0 in
         let words : readTriplesWords room (take (text .length) out) ≡ t = ap (readTriplesWords room) to-text-is ∙ back .1 in
-        let same : image ≡ tableImage t = read-writes room image (sym (passed .0)) .0 in
-        let short : length (tableImage t) ≤ length output′ = subst (λ l. length l ≤ length output′) same fits in
         let done : writeAnswer t output′ ≡ 0 =
         table-passes product t table (orElse (ltb (length output′) (length (tableImage t))) 13 0)
         ∙ ap (λ b. orElse b 13 0) (le-ltb (length output′) (length (tableImage t)) short) in
@@ -127,8 +126,17 @@ module _ (image output : List ℕ) (text : Text) (out : List ℕ) (p : ToTextPro
         let bytes : out′ ≡ writeBytes t output′ =
         q .bytes-are ∙ (passed-leaves n (writeBytes v output′) output′ again ∙ ap (λ w. writeBytes w output′) words) in (
           q .answer-is ∙ (passed-leaves n (writeAnswer v output′) n again ∙ (ap (λ w. writeAnswer w output′) words ∙ done)),
-          ap (λ m. take m out′) long ∙ (ap (take (writeLength t output′)) bytes ∙ (write-taken t output′ done ∙ sym same)),
+          ap (λ m. take m out′) long ∙ (ap (take (writeLength t output′)) bytes ∙ write-taken t output′ done),
         )
+
+    -- That is the image it came from, if this has other than ten entries.
+    pub text-image-again : any (isLone (facts product t)) (facts product t) ≡ false → (TenEntries image → ⊥) → (output′ : List ℕ)
+        (imaged : Imaged) (out′ : List ℕ) → ToImagePromise (take (text .length) out) output′ imaged out′
+        → length image ≤ length output′ → (imaged .answer ≡ 0) × (take (imaged .length) out′ ≡ image)
+    text-image-again lone others output′ imaged out′ q fits =
+        let same : image ≡ tableImage t = read-writes room image (sym (passed .0)) others .0 in
+        let done = text-image-written lone output′ imaged out′ q (subst (λ l. length l ≤ length output′) same fits) in
+        (done .0, done .1 ∙ sym same)
 
 module _ (text output : List ℕ) where
   abbrev v : List ℕ

@@ -1,9 +1,9 @@
 -- Demands 1 and 2 about writing and reading themselves. All that is known of a call is its contract: `WritePromise` for `write`,
 -- which answers w and leaves the bytes out; `ReadPromise` for `read`, which answers r and leaves the words v; `BodyPromise` for
 -- `body`. Assumes nothing.
-use Prim.Native.Nat.{ℕ, _≤_}
+use Prim.Native.Nat.{ℕ, _*_, _≤_}
 use mathlib.Core.Path.{_≡_, refl, sym, ap, subst, _∙_}
-use mathlib.Core.Bool.{false, cond, _||_}
+use mathlib.Core.Bool.{true, false, cond, _||_, or-true}
 use mathlib.Core.List.{List, _++_}
 use lib.Dec.{eqb, ltb, leb, lit≤}
 use lib.ListN.{length, take, drop}
@@ -12,7 +12,7 @@ use borrow.Author.Tests.{ne-eqb}
 use native.Mathlib.Omega.{arith}
 use Rattle.rdfs.specs.Numbers.{product}
 use Rattle.rdfs.specs.Lists.{_∈_}
-use Rattle.rdfs.specs.Words.{filled, padded}
+use Rattle.rdfs.specs.Words.{fact, filled, padded}
 use Rattle.rdfs.specs.Refusals.{orElse, badSize, badLayout, inconsistent, tableRefusal}
 use Rattle.rdfs.specs.Register.{Table}
 use Rattle.rdfs.proofs.tickets.FirstTrue.{passed-link}
@@ -20,18 +20,21 @@ use Rattle.rdfs.proofs.tickets.Steps.{checked-table}
 use Rattle.rdfs.proofs.Theorems.{product-sound}
 use Rattle.table.proofs.TestAnswers.{is-false}
 use Rattle.table.proofs.Filled.{filled-within}
-use Rattle.contents.specs.ImageForm.{form, kinds}
-use Rattle.contents.specs.Image.{bodyOf}
-use Rattle.contents.specs.Reading.{Facts, wordsOf, malformed, bodyStart, bodySize}
-use Rattle.contents.specs.BodyPromise.{BodyPromise}
-use Rattle.contents.proofs.RoundTrip.{filled-facts}
+use Rattle.contents.specs.ImageForm.{Form, form, tenForm, TenEntries, imageForm, factSize, kinds}
+use Rattle.contents.specs.Image.{factKind, bodyOf, imageOf}
+use Rattle.contents.specs.Reading.{Facts, HasEntries, startAt, countAt, wordsOf, malformed, bodiless, bodyStart, bodySize}
+use Rattle.contents.specs.BodyPromise.{IsPart, BodyPromise}
+use Rattle.contents.proofs.FactsRead.{fact-kind}
+use Rattle.contents.proofs.RoundTrip.{all-entries, filled-facts}
 use Rattle.contents.proofs.Product.{proper}
+use Rattle.contents.proofs.ImageForms.{ten-legible, form-own, ten-own, ten-form}
 use Rattle.writing.specs.WritePromise.{tableImage, writeAnswer, writeLength, WritePromise}
 use Rattle.writing.specs.declared.Written.{Written}
 use Rattle.writing.proofs.WriteCall.{write-done, write-parts, write-taken}
-use Rattle.reading.specs.ReadPromise.{readAnswer, readWords, ReadPromise}
+use Rattle.reading.specs.ReadPromise.{imageWords, readAnswer, readWords, ReadPromise}
 use Rattle.reading.proofs.ReadCall.{read-refused}
-use Rattle.image.proofs.ImageTheorems.{body-is-ids, image-reads-back, table-reads-back, read-writes}
+use Rattle.image.proofs.ImageTheorems.{body-is-ids, form-reads-back, image-reads-back, table-reads-back}
+use Rattle.image.proofs.ImageTheorems.{ReadAs, read-as, read-writes}
 
 module _ (t output : List ℕ) (w : Written) (out : List ℕ) (p : WritePromise t output w out) where
   -- Demand 1: the answer is the first of 1, 2, 3, 13 whose condition holds, or 0.
@@ -81,26 +84,31 @@ module _ (t output : List ℕ) (w : Written) (out : List ℕ) (p : WritePromise 
       → BodyPromise whole k part → part .now ≡ bodyOf product form (filled t) k
   write-body-ids z whole part e k i b =
       let s = write-saved z in
-      let f : Facts product (filled t) = filled-facts product product-sound t (checked-table product t (sym (s .0)) .laid) in
-      b .bytes ∙ (ap (λ m. take (bodySize product form m k) (drop (bodyStart product form m k) m)) (e ∙ s .1)
-      ∙ body-is-ids product form product-sound proper (lit≤ tt) (filled t) f k i)
+      let l : List ℕ = filled t in
+      let f : Facts product l = filled-facts product product-sound t (checked-table product t (sym (s .0)) .laid) in
+      let part-of : Form → List ℕ → List ℕ = λ F m. take (bodySize product F m k) (drop (bodyStart product F m k) m) in
+      b .bytes ∙ (ap (λ m. part-of (imageForm m) m) (e ∙ s .1)
+      ∙ (ap (λ F. part-of F (tableImage t)) (form-own product l)
+      ∙ body-is-ids product form product-sound proper l f (all-entries product form (lit≤ tt) l) k i))
 
 module _ (u bytes : List ℕ) (r : ℕ) (v : List ℕ) (p : ReadPromise u bytes r v) where
   -- Demand 1: the answer is the first of 1, 12, 11, 3 whose condition holds, or 0.
-  pub read-order : r ≡ orElse (badSize product u) 1 (orElse (malformed product form bytes) 12
-      (orElse (ltb (length u) (length (wordsOf product form bytes))) 11
-      (orElse (inconsistent product (wordsOf product form bytes)) 3 0)))
+  pub read-order : r ≡ orElse (badSize product u) 1 (orElse (malformed product (imageForm bytes) bytes) 12
+      (orElse (ltb (length u) (length (imageWords bytes))) 11
+      (orElse (inconsistent product (imageWords bytes)) 3 0)))
   read-order = p .0
 
   -- Demand 1: refused, every word is as it was.
   pub read-refusal-keeps : (r ≡ 0 → ⊥) → v ≡ u
   read-refusal-keeps h = p .1 ∙ sym (read-refused u bytes r (p .0) h .1)
 
-  -- Demand 2: bytes that were read are written again from the table read, into any output that is long enough.
-  pub read-writes-again : r ≡ 0 → (output : List ℕ) (w : Written) (out : List ℕ) → WritePromise v output w out
+  -- Demand 2: bytes that were read are written again from the table read, into any output that is long enough, unless they have
+  -- ten entries.
+  pub read-writes-again : r ≡ 0 → (TenEntries bytes → ⊥) → (output : List ℕ) (w : Written) (out : List ℕ)
+      → WritePromise v output w out
       → length bytes ≤ length output → (w .answer ≡ 0) × (w .length ≡ length bytes) × (take (w .length) out ≡ bytes)
-  read-writes-again z output w out q h =
-      let x = read-writes u bytes (sym z ∙ p .0) in
+  read-writes-again z n output w out q h =
+      let x = read-writes u bytes (sym z ∙ p .0) n in
       let image : bytes ≡ tableImage v = x .0 ∙ ap tableImage (sym (p .1)) in
       let table : Table product v = checked-table product v (ap (λ m. tableRefusal product m 0) (p .1) ∙ sym (x .1)) in
       let size : ℕ = length (tableImage v) in
@@ -111,3 +119,57 @@ module _ (u bytes : List ℕ) (r : ℕ) (v : List ℕ) (p : ReadPromise u bytes 
         q .1 ∙ (sym (done .1) ∙ ap length (sym image)),
         cut ∙ (ap (take (writeLength v output)) (q .2) ∙ (write-taken v output (sym (done .0)) ∙ sym image)),
       )
+
+-- Facts of other kinds than 11.
+abbrev pub NoneExclusive : List ℕ → Type 0
+NoneExclusive l = (w : ℕ) → w ∈ l → factKind product w ≡ 11 → ⊥
+
+-- Bytes with ten entries, read into a table u, leave the words v: those that the bodies of the ten-entry form give, then zeros.
+-- None is of kind 11, and the bytes are exactly the ten-entry image of the facts.
+pub record TenRead (u bytes v : List ℕ) : Type 0 where
+  pub words : v ≡ padded (length u) (wordsOf product tenForm bytes)
+  pub none : NoneExclusive (filled v)
+  pub image : bytes ≡ imageOf product tenForm (filled v)
+
+module _ (u bytes : List ℕ) (r : ℕ) (v : List ℕ) (p : ReadPromise u bytes r v) (ten : TenEntries bytes) where
+  -- Ask 3: ten entries are no refusal: the answer is the first of 1, 12, 11, 3 whose condition holds in the ten-entry form, or 0.
+  pub ten-order : r ≡ orElse (badSize product u) 1 (orElse (malformed product tenForm bytes) 12
+      (orElse (ltb (length u) (length (wordsOf product tenForm bytes))) 11
+      (orElse (inconsistent product (wordsOf product tenForm bytes)) 3 0)))
+  ten-order = p .0 ∙ ap (λ F. orElse (badSize product u) 1 (orElse (malformed product F bytes) 12
+      (orElse (ltb (length u) (length (wordsOf product F bytes))) 11 (orElse (inconsistent product
+      (wordsOf product F bytes)) 3 0))))
+      (ten-form bytes ten)
+
+  -- Ask 3: what a ten-entry image is read as.
+  pub ten-reads : r ≡ 0 → TenRead u bytes v
+  ten-reads z =
+      let x : ReadAs u bytes tenForm = subst (ReadAs u bytes) (ten-form bytes ten) (read-as u bytes (sym z ∙ p .0)) in
+      let few : HasEntries product tenForm (filled v) = subst (λ m. HasEntries product tenForm (filled m)) (sym (p .1))
+      (x .entries) in
+      record {
+        words = p .1 ∙ x .words;
+        none = λ w i e. omega (arith, few w i, e);
+        image = x .image ∙ ap (λ m. imageOf product tenForm (filled m)) (sym (p .1));
+      }
+
+-- Ask 3: the ten-entry image of a table without facts of kind 11 is read as that table's facts.
+pub ten-reads-back : (t : List ℕ) → 0 ≡ tableRefusal product t 0 → NoneExclusive (filled t)
+    → (u : List ℕ) (r : ℕ) (v : List ℕ) → ReadPromise u (imageOf product tenForm (filled t)) r v → badSize product u ≡ false
+    → length (filled t) ≤ length u → (r ≡ 0) × (v ≡ padded (length u) (filled t))
+ten-reads-back t e none u r v q size h =
+    let few : HasEntries product tenForm (filled t) =
+    λ w i. omega (arith, fact-kind (fact (product .base) w) .1, none w i) in
+    let back = form-reads-back tenForm (ten-legible .proper) ten-own t u e few size h in
+    (q .0 ∙ sym (back .0), q .1 ∙ sym (back .1))
+
+-- Ask 3: the body of kind 11 of a ten-entry image is the empty part at the end.
+pub ten-body-end : (whole part : RefT (List ℕ)) → TenEntries (whole .now) → BodyPromise whole 11 part
+    → IsPart whole part (length (whole .now)) 0
+ten-body-end whole part ten b =
+    let bytes : List ℕ = whole .now in
+    let here = subst (λ F. IsPart whole part (bodyStart product F bytes 11) (bodySize product F bytes 11))
+    (ten-form bytes ten) b in
+    let none : bodiless product tenForm bytes 11 ≡ true = or-true (malformed product tenForm bytes) in
+    subst (λ m. IsPart whole part (cond m (length bytes) (startAt tenForm bytes 11))
+    (cond m 0 (factSize tenForm 11 * countAt tenForm bytes 11))) none here

@@ -11,18 +11,13 @@ use lib.Seq.{length-take-le, take-all}
 use Rattle.rdfs.specs.Numbers.{product}
 use borrow.Author.Tests.{ne-eqb}
 use Rattle.rdfs.specs.Words.{filled, padded}
-use Rattle.rdfs.specs.Register.{Table}
 use Rattle.rdfs.proofs.lists.ListLaws.{none-in}
 use Rattle.rdfs.proofs.words.LaidOut.{filled-before}
-use Rattle.rdfs.proofs.tickets.Steps.{checked-table}
 use Rattle.rdfs.proofs.Theorems.{product-sound}
-use Rattle.contents.specs.ImageForm.{form, largestFact, firstBody}
-use Rattle.contents.specs.Reading.{wordsOf}
+use Rattle.contents.specs.ImageForm.{form, imageForm, largestFact, firstBody}
 use Rattle.contents.proofs.RoundTrip.{words-some}
-use Rattle.writing.specs.Writing.{Writable}
-use Rattle.writing.proofs.Measuring.{image-small}
-use Rattle.reading.specs.ReadPromise.{readAnswer, readWords}
-use Rattle.image.proofs.ImageTheorems.{read-writes}
+use Rattle.reading.specs.ReadPromise.{imageWords, readAnswer, readWords}
+use Rattle.image.proofs.ImageTheorems.{read-short}
 use Rattle.print_facts.specs.FactLines.{WordsPrinted, FactsPrinted, ImageLent, wordsRead}
 
 abbrev room : List ℕ
@@ -31,23 +26,17 @@ room = replicate (product .most) 0
 pub filled-read : (image : List ℕ) → filled (readWords (replicate (product .most) 0) image) ≡ wordsRead image
 filled-read image = by-answer (eqb (readAnswer (replicate (product .most) 0) image) 0)
   where
-    by-answer : (b : Bool) → filled (cond b (padded (length (replicate {A = ℕ} (product .most) 0)) (wordsOf product form image))
-        (replicate (product .most) 0)) ≡ cond b (wordsOf product form image) []
-    by-answer true = filled-before (wordsOf product form image) (length (replicate {A = ℕ} (product .most) 0) - length
-        (wordsOf product form image)) (words-some product form product-sound image)
+    by-answer : (b : Bool) → filled (cond b (padded (length (replicate {A = ℕ} (product .most) 0)) (imageWords image))
+        (replicate (product .most) 0)) ≡ cond b (imageWords image) []
+    by-answer true = filled-before (imageWords image) (length (replicate {A = ℕ} (product .most) 0) - length
+        (imageWords image)) (words-some product (imageForm image) product-sound image)
     by-answer false = filled-before [] (product .most) (λ x h. absurd (none-in h))
 
 -- More bytes than any image has are not read.
 pub long-unread : (image : List ℕ) → firstBody form + largestFact form * product .most < length image → wordsRead image ≡ []
 long-unread image h = elim (ℕ-discrete (readAnswer room image) 0) [
-  | yes e ↦
-      let again = read-writes room image (sym e) in
-      let t : List ℕ = readWords room image in
-      let table : Table product t = checked-table product t (sym (again .1)) in
-      let counted : Writable t (length (filled t)) =
-      record { counted = record { laid = table .laid; size = refl }; few = table .fits } in
-      absurd (omega (arith, h, ap length (again .0), image-small t (length (filled t)) counted))
-  | no n ↦ ap (λ b. cond b (wordsOf product form image) []) (ne-eqb (readAnswer room image) 0 n)
+  | yes e ↦ absurd (omega (arith, h, read-short room image (sym e)))
+  | no n ↦ ap (λ b. cond b (imageWords image) []) (ne-eqb (readAnswer room image) 0 n)
 ]
 
 -- The lines of the bytes read are those of any image that they begin: they are all of it, or too many.

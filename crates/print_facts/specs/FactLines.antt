@@ -7,8 +7,7 @@ use lib.Dec.{eqb}
 use lib.ListN.{length, take, replicate}
 use Rattle.rdfs.specs.Numbers.{product}
 use Rattle.contents.specs.ImageForm.{form, largestFact, firstBody}
-use Rattle.contents.specs.Reading.{wordsOf}
-use Rattle.reading.specs.ReadPromise.{readAnswer}
+use Rattle.reading.specs.ReadPromise.{imageWords, readAnswer}
 use Rattle.text.specs.Text.{Number}
 use Rattle.streams.specs.Input.{Begins}
 
@@ -24,8 +23,7 @@ pub record WordsPrinted (l : List ℕ) (r : ℕ) (out : List ℕ) : Type 0 where
 
 -- The facts of an image, as words; none if reading it into a table of the most words is refused.
 abbrev pub wordsRead : List ℕ → List ℕ
-wordsRead image = cond (eqb (readAnswer (replicate (product .most) 0) image) 0) (wordsOf product form image)
-    []
+wordsRead image = cond (eqb (readAnswer (replicate (product .most) 0) image) 0) (imageWords image) []
 
 -- What stands in the buffer from its start up to r is what program two prints, whatever image the n bytes
 -- read begin.

@@ -9,3 +9,4 @@ pub mod deletion
 pub mod clash
 pub mod register
 pub mod Theorems
+pub mod ExclusiveTheorems

@@ -10,7 +10,7 @@ use lib.Dec.{T}
 use lib.ListN.{length}
 use Rattle.rdfs.specs.Numbers.{Numbers, Sound, product, arity}
 use Rattle.rdfs.specs.Lists.{_∈_, _⊆_}
-use Rattle.rdfs.specs.Facts.{Fact, cl, pr, ind, lit, csub, psub, dom, rng, ci, pi, kind, ids, graph, _⊑_}
+use Rattle.rdfs.specs.Facts.{Fact, cl, pr, ind, lit, csub, psub, dom, rng, ci, pi, excl, kind, ids, graph, _⊑_}
 use Rattle.rdfs.specs.Consistency.{Consistent, Smallest, Largest, keeps}
 use Rattle.rdfs.specs.Words.{facts}
 use Rattle.rdfs.specs.Clashes.{clashes, consistent?}
@@ -60,6 +60,7 @@ arity-is (dom a b) = refl
 arity-is (rng a b) = refl
 arity-is (ci a b) = refl
 arity-is (pi a b c) = refl
+arity-is (excl a) = refl
 
 -- The decision `consistent?` is consistency.
 pub decision-exact : (K : List Fact) → (T (consistent? K) → Consistent (graph K)) × (Consistent (graph K) → T (consistent? K))

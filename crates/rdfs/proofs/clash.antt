@@ -3,12 +3,14 @@ pub mod Hierarchy
 pub mod OneRole
 pub mod Schema
 pub mod Full
+pub mod SharedValues
 pub mod MoreRoles
 pub mod MoreLinks
 pub mod LookupTests
 pub mod Wanted
 pub mod Possible
 pub mod PossibleLinks
+pub mod PossibleExclusive
 pub mod Impossible
 pub mod LookedUp
 pub mod LookupClash

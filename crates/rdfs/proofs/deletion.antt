@@ -7,6 +7,8 @@ pub mod Between
 pub mod Leads
 pub mod DeletedLinks
 pub mod DeletedMembers
+pub mod DeletedExclusive
 pub mod DeletionLargest
 pub mod DeletionLaws
 pub mod DeletionSteps
+pub mod ExclusiveTaken

@@ -16,12 +16,13 @@ use Rattle.rdfs.specs.Facts.{
   rng,
   ci,
   pi,
+  excl,
   kind,
   first,
   second,
   has,
 }
-use Rattle.rdfs.specs.Demands.{withA, needs}
+use Rattle.rdfs.specs.Demands.{withA, withC, needs}
 
 -- The facts that may not stand beside one: rules 4, 5, 6, H2, 19, 21.
 unfoldable pub bars : Fact → List Fact
@@ -35,19 +36,29 @@ bars (dom x y) = []
 bars (rng x y) = []
 bars (ci x y) = []
 bars (pi x y z) = []
+bars (excl x) = []
 
 -- Exactly one is the mark.
 abbrev pub mixed : ℕ → ℕ → Bool
 mixed z w = (eqb z 1 && not (eqb w 1)) || (not (eqb z 1) && eqb w 1)
 
--- Facts of K that may not stand beside one by their ids: H4; 16 and 17.
+-- Another individual than x has the value y through z.
+abbrev pub heldByOther : List Fact → ℕ → ℕ → ℕ → Bool
+heldByOther K x y z = any (λ f. eqb (second f) y && not (eqb (first f) x)) (withC K 10 z)
+
+-- Two individuals have one value through z.
+abbrev pub twoHolders : List Fact → ℕ → Bool
+twoHolders K z = any (λ f. heldByOther K (first f) (second f) z) (withC K 10 z)
+
+-- Facts of K that may not stand beside one by their ids: H4; 16 and 17; E2.
 unfoldable pub unequal : List Fact → Fact → Bool
 unequal K f =
     cond (eqb (kind f) 6)
     (any (λ lower. any (λ upper. mixed (second lower) (second upper)) (withA K 8 (second f)))
     (withA K 8 (first f)))
     (cond (eqb (kind f) 7 || eqb (kind f) 8)
-    (any (λ g. not (eqb (second f) (second g))) (withA K (kind f) (first f))) false)
+    (any (λ g. not (eqb (second f) (second g))) (withA K (kind f) (first f)))
+    (cond (eqb (kind f) 11) (twoHolders K (first f)) false))
 
 abbrev pub clash : List Fact → Fact → Bool
 clash K f = any (has K) (bars f) || unequal K f

@@ -6,13 +6,13 @@ use lib.Dec.{eqb}
 use lib.ListN.{getD}
 use Rattle.rdfs.specs.Lists.{_∈_, any}
 
--- Cl, Pr, Ind and Lit of a; CSub(a,b), PSub(a,b), Dom(a,b), Rng(a,b), CI(a,b); PI(a,b,c).
+-- Cl, Pr, Ind, Lit and Excl of a; CSub(a,b), PSub(a,b), Dom(a,b), Rng(a,b), CI(a,b); PI(a,b,c).
 pub data Fact : Type 0 where
-  cl pr ind lit : ℕ → Fact
+  cl pr ind lit excl : ℕ → Fact
   csub psub dom rng ci : ℕ → ℕ → Fact
   pi : ℕ → ℕ → ℕ → Fact
 
--- Document 01's number for the kind of a fact.
+-- The number of document 01, for Excl of 02, for the kind of a fact.
 abbrev pub kind : Fact → ℕ
 kind (cl a) = 1
 kind (pr a) = 2
@@ -24,6 +24,7 @@ kind (dom a b) = 7
 kind (rng a b) = 8
 kind (ci a b) = 9
 kind (pi a b c) = 10
+kind (excl a) = 11
 
 abbrev pub ids : Fact → List ℕ
 ids (cl a) = a ∷ []
@@ -36,6 +37,7 @@ ids (dom a b) = a ∷ b ∷ []
 ids (rng a b) = a ∷ b ∷ []
 ids (ci a b) = a ∷ b ∷ []
 ids (pi a b c) = a ∷ b ∷ c ∷ []
+ids (excl a) = a ∷ []
 
 -- The ids a, b and c of a fact, 0 where it has fewer.
 abbrev pub first : Fact → ℕ
@@ -52,7 +54,7 @@ abbrev pub made : ℕ → ℕ → ℕ → ℕ → Fact
 made k a b c =
     cond (eqb k 1) (cl a) (cond (eqb k 2) (pr a) (cond (eqb k 3) (ind a) (cond (eqb k 4) (lit a)
     (cond (eqb k 5) (csub a b) (cond (eqb k 6) (psub a b) (cond (eqb k 7) (dom a b) (cond (eqb k 8) (rng a b)
-    (cond (eqb k 9) (ci a b) (pi a b c)))))))))
+    (cond (eqb k 9) (ci a b) (cond (eqb k 11) (excl a) (pi a b c))))))))))
 
 abbrev pub same : Fact → Fact → Bool
 same f g = eqb (kind f) (kind g) && (eqb (first f) (first g) && (eqb (second f) (second g) && eqb (third f)

@@ -25,7 +25,7 @@ recordLength = 5
 
 -- How many ids a fact of each kind has, from kind 1 on; how many kinds there are.
 abbrev pub arities : List ℕ
-arities = 1 ∷ 1 ∷ 1 ∷ 1 ∷ 2 ∷ 2 ∷ 2 ∷ 2 ∷ 2 ∷ 3 ∷ []
+arities = 1 ∷ 1 ∷ 1 ∷ 1 ∷ 2 ∷ 2 ∷ 2 ∷ 2 ∷ 2 ∷ 3 ∷ 1 ∷ []
 
 abbrev pub kindCount : ℕ
 kindCount = length arities
@@ -36,4 +36,4 @@ arity k = getD (0 ∷ arities) k 0
 
 -- The kinds that a ticket may have.
 abbrev pub ticketKinds : List ℕ
-ticketKinds = 1 ∷ 2 ∷ 3 ∷ 4 ∷ 5 ∷ 6 ∷ 9 ∷ 10 ∷ []
+ticketKinds = 1 ∷ 2 ∷ 3 ∷ 4 ∷ 5 ∷ 6 ∷ 9 ∷ 10 ∷ 11 ∷ []

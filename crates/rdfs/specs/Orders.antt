@@ -20,11 +20,12 @@ sameBytes (byte ∷ l) (other ∷ m) = eqb byte other && sameBytes l m
 abbrev pub SameTickets : List (List ℕ) → List (List ℕ) → Type 0
 SameTickets l m = (ticket : List ℕ) → count (sameBytes ticket) l ≡ count (sameBytes ticket) m
 
--- A ticket uses a property if it is PSub with it as a or b, or PI with it as c; it makes one if it is an
--- insertion of kind 2 with it as a.
+-- A ticket uses a property if it is PSub with it as a or b, PI with it as c, or Excl with it as a; it makes
+-- one if it is an insertion of kind 2 with it as a.
 abbrev pub UsesProperty : Ticket → ℕ → Type 0
 UsesProperty ticket p =
-    ((ticket .kind ≡ 6) × ((p ≡ ticket .a) ⊎ (p ≡ ticket .b))) ⊎ ((ticket .kind ≡ 10) × (p ≡ ticket .c))
+    ((ticket .kind ≡ 6) × ((p ≡ ticket .a) ⊎ (p ≡ ticket .b)))
+    ⊎ (((ticket .kind ≡ 10) × (p ≡ ticket .c)) ⊎ ((ticket .kind ≡ 11) × (p ≡ ticket .a)))
 
 abbrev pub MakesProperty : Ticket → ℕ → Type 0
 MakesProperty ticket p = T (inserts ticket) × (ticket .kind ≡ 2) × (p ≡ ticket .a)

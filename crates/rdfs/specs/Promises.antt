@@ -2,11 +2,12 @@
 -- holds after a ticket.
 use Prim.Native.Nat.{ℕ}
 use mathlib.Core.Path.{_≡_}
+use mathlib.Core.Logic.{_⊎_}
 use mathlib.Core.List.{List}
 use lib.Dec.{T}
 use Rattle.rdfs.specs.Numbers.{Numbers, ticketKinds}
 use Rattle.rdfs.specs.Lists.{_∈_, _⊆_}
-use Rattle.rdfs.specs.Facts.{Fact, Graph, cl, pr, graph, _⊑_}
+use Rattle.rdfs.specs.Facts.{Fact, Graph, cl, pr, dom, rng, excl, graph, _⊑_}
 use Rattle.rdfs.specs.Consistency.{Lawful, Consistent}
 use Rattle.rdfs.specs.Words.{allowed, facts}
 use Rattle.rdfs.specs.Tickets.{
@@ -60,6 +61,12 @@ Possible G A = (H : Graph) × Lawful H × _⊑_ G H × _⊑_ A H
 -- Some lawful graph of facts that a table can have: ids up to the highest, the mark in its place.
 abbrev pub PossibleUpTo : ℕ → Graph → Graph → Type 1
 PossibleUpTo top G A = (H : Graph) × Lawful H × _⊑_ G H × _⊑_ A H × ((f : Fact) → H f → T (allowed top f))
+
+-- What takes Excl(z) out of a table of facts K: it is deleted itself, or its property, or the class that is
+-- its property's domain or range.
+abbrev pub TakesExclusive : List Fact → ℕ → Fact → Type 0
+TakesExclusive K z gone =
+    (gone ≡ excl z) ⊎ ((gone ≡ pr z) ⊎ ((b : ℕ) × (gone ≡ cl b) × ((dom z b ∈ K) ⊎ (rng z b ∈ K))))
 
 -- A ticket that changes nothing.
 abbrev pub unchanged : List ℕ → Answer

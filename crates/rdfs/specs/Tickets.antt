@@ -82,12 +82,13 @@ guarded ticket =
     deletes ticket && ((eqb (ticket .kind) 1 && eqb (ticket .a) 0)
     || ((eqb (ticket .kind) 5 || eqb (ticket .kind) 9) && eqb (ticket .b) 0))
 
--- 9: inserting PSub with a or b not a property of the table, or PI with c not one.
+-- 9: inserting PSub with a or b not a property of the table, PI with c not one, or Excl with a not one.
 abbrev pub unknownProperty : List Fact → Ticket → Bool
 unknownProperty K ticket =
     inserts ticket
     && ((eqb (ticket .kind) 6 && (not (has K (pr (ticket .a))) || not (has K (pr (ticket .b)))))
-    || (eqb (ticket .kind) 10 && not (has K (pr (ticket .c)))))
+    || ((eqb (ticket .kind) 10 && not (has K (pr (ticket .c))))
+    || (eqb (ticket .kind) 11 && not (has K (pr (ticket .a))))))
 
 -- 16: inserting CI with b not a class of the table.
 abbrev pub unknownClass : List Fact → Ticket → Bool

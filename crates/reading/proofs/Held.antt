@@ -17,7 +17,7 @@ use Rattle.rdfs.proofs.words.Tables.{padded-length}
 use Rattle.rdfs.proofs.Theorems.{product-sound}
 use Rattle.table.proofs.TestAnswers.{is-true}
 use Rattle.table.proofs.LayoutWalks.{laid-some}
-use Rattle.contents.specs.ImageForm.{form}
+use Rattle.contents.specs.ImageForm.{imageForm}
 use Rattle.contents.specs.Reading.{wordsOf}
 use Rattle.contents.proofs.RoundTrip.{words-some, words-full}
 
@@ -33,21 +33,22 @@ laid-before last (w ∷ l) m h =
     ∙ sym (laid-some (suc last) w l some))
 
 -- A table of right size that holds the words of some bytes, then zeros.
-module _ (t bytes : List ℕ) (size : badSize product t ≡ false) (h : length (wordsOf product form bytes) ≤ length t) where
+module _ (t bytes : List ℕ) (size : badSize product t ≡ false) (h : length (wordsOf product
+    (imageForm bytes) bytes) ≤ length t) where
   abbrev l : List ℕ
-  l = wordsOf product form bytes
+  l = wordsOf product (imageForm bytes) bytes
 
   abbrev held : List ℕ
   held = padded (length t) l
 
   pub held-filled : filled held ≡ l
-  held-filled = filled-before l (length t - length l) (words-some product form product-sound bytes)
+  held-filled = filled-before l (length t - length l) (words-some product (imageForm bytes) product-sound bytes)
 
   pub held-facts : facts product held ≡ facts product l
-  held-facts = ap (map (fact (product .base))) (held-filled ∙ sym (words-full product form product-sound bytes))
+  held-facts = ap (map (fact (product .base))) (held-filled ∙ sym (words-full product (imageForm bytes) product-sound bytes))
 
   pub held-laid : laidOut product 1 held ≡ laidOut product 1 l
-  held-laid = laid-before 0 l (length t - length l) (words-some product form product-sound bytes)
+  held-laid = laid-before 0 l (length t - length l) (words-some product (imageForm bytes) product-sound bytes)
 
   -- Its refusals are those of the words.
   pub held-checked : tableRefusal product held 0 ≡ orElse (badLayout product l) 2 (orElse (inconsistent product l) 3 0)

@@ -15,10 +15,10 @@ use Rattle.rdfs.proofs.words.Tables.{padded-length}
 use Rattle.rdfs.proofs.tickets.FirstTrue.{passed-link}
 use Rattle.table.proofs.TestAnswers.{is-false}
 use Rattle.table.proofs.Zeros.{drop-zeros}
-use Rattle.contents.specs.ImageForm.{form}
+use Rattle.contents.specs.ImageForm.{imageForm}
 use Rattle.contents.specs.Reading.{wordsOf, malformed}
 use Rattle.reading.specs.Fitting.{Fitting}
-use Rattle.reading.specs.ReadPromise.{imageRefusal, readAnswer, readWords, ReadPromise}
+use Rattle.reading.specs.ReadPromise.{imageWords, imageRefusal, readAnswer, readWords, ReadPromise}
 use Rattle.contents.proofs.InBytes.{AllBytes}
 use Rattle.contents.proofs.Product.{right-malformed}
 use Rattle.reading.proofs.Held.{held-checked}
@@ -38,7 +38,7 @@ overfull-some false r e z = omega (arith, e, z)
 
 -- The words that bytes give, and refusal 3 of them, or 0.
 abbrev words : List ℕ → List ℕ
-words bytes = wordsOf product form bytes
+words bytes = imageWords bytes
 
 abbrev last : List ℕ → ℕ
 last bytes = orElse (inconsistent product (words bytes)) 3 0
@@ -60,33 +60,36 @@ module _ (t bytes : List ℕ) where
     read-sized = ap (λ b. orElse b 1 (imageRefusal bytes (length t) (last bytes))) size
 
     -- 12, whatever the words.
-    pub read-malformed : malformed product form bytes ≡ true → 12 ≡ readAnswer t bytes
+    pub read-malformed : malformed product (imageForm bytes) bytes ≡ true → 12 ≡ readAnswer t bytes
     read-malformed e = sym (read-sized ∙ ap (λ b. orElse b 12 (orElse (ltb (length t) (length (words bytes))) 11 (last bytes))) e)
 
     -- More words than the table has: 12 or 11.
-    pub read-overfull : length t < length (words bytes) → (r : ℕ) → r ≡ orElse (malformed product form bytes) 12 11
+    pub read-overfull : length t < length (words bytes) → (r : ℕ) → r ≡ orElse (malformed product (imageForm bytes) bytes) 12 11
         → r ≡ readAnswer t bytes
-    read-overfull h r e = e ∙ sym (read-sized ∙ ap (λ b. orElse (malformed product form bytes) 12 (orElse b 11 (last bytes)))
+    read-overfull h r e = e ∙ sym (read-sized ∙ ap (λ b. orElse (malformed product (imageForm bytes) bytes) 12 (orElse b 11
+        (last bytes)))
         (lt-ltb (length t) (length (words bytes)) h))
 
     -- No more: 12, 3 or 0.
-    pub read-fitting : length (words bytes) ≤ length t → readAnswer t bytes ≡ orElse (malformed product form bytes) 12
+    pub read-fitting : length (words bytes) ≤ length t → readAnswer t bytes ≡ orElse (malformed product
+        (imageForm bytes) bytes) 12
         (last bytes)
-    read-fitting h = read-sized ∙ ap (λ b. orElse (malformed product form bytes) 12 (orElse b 11 (last bytes)))
+    read-fitting h = read-sized ∙ ap (λ b. orElse (malformed product (imageForm bytes) bytes) 12 (orElse b 11 (last bytes)))
         (le-ltb (length t) (length (words bytes)) h)
 
   -- Refused with none of 1, 12 and 11: what is left is refusal 3, or 0.
   pub read-judged : (n : ℕ) → (1 ≡ n → ⊥) → n < 11 → n ≡ readAnswer t bytes → (badSize product t ≡ false)
-      × (malformed product form bytes ≡ false) × (length (words bytes) ≤ length t) × (last bytes ≡ n)
+      × (malformed product (imageForm bytes) bytes ≡ false) × (length (words bytes) ≤ length t) × (last bytes ≡ n)
   read-judged n other small e =
       let more : Bool = ltb (length t) (length (words bytes)) in
       let a = passed-link (badSize product t) 1 (imageRefusal bytes (length t) (last bytes)) n other (sym e) in
-      let b = passed-link (malformed product form bytes) 12 (orElse more 11 (last bytes)) n (omega (arith, small)) (a .1) in
+      let b = passed-link (malformed product (imageForm bytes) bytes) 12 (orElse more 11 (last bytes)) n (omega (arith, small))
+      (a .1) in
       let c = passed-link more 11 (last bytes) n (omega (arith, small)) (b .1) in
       (is-false (a .0), is-false (b .0), ltb-false (length t) (length (words bytes)) (is-false (c .0)), c .1)
 
   -- Not refused.
-  pub read-parts : 0 ≡ readAnswer t bytes → (badSize product t ≡ false) × (malformed product form bytes ≡ false)
+  pub read-parts : 0 ≡ readAnswer t bytes → (badSize product t ≡ false) × (malformed product (imageForm bytes) bytes ≡ false)
       × (length (words bytes) ≤ length t) × (last bytes ≡ 0)
   read-parts e = read-judged 0 (omega arith) (omega arith) e
 
@@ -108,7 +111,7 @@ module _ (t bytes : List ℕ) (b : AllBytes bytes) (f : Fitting t bytes) (zeros 
   work-length = ap length work-held ∙ padded-length (length t) (words bytes) (f .fits)
 
   module _ (r : ℕ) (q : r ≡ tableRefusal product work 0) where
-    judged : orElse (malformed product form bytes) 2 (last bytes) ≡ r
+    judged : orElse (malformed product (imageForm bytes) bytes) 2 (last bytes) ≡ r
     judged =
         ap (λ m. orElse m 2 (last bytes)) (right-malformed (f .contents .form) bytes b (f .contents .right))
         ∙ sym (q ∙ (ap (λ w. tableRefusal product w 0) work-held ∙ held-checked t bytes (f .size) (f .fits)))
@@ -116,7 +119,8 @@ module _ (t bytes : List ℕ) (b : AllBytes bytes) (f : Fitting t bytes) (zeros 
     -- 2 is 12, and any other answer is reading's.
     pub work-malformed : r ≡ 2 → 12 ≡ readAnswer t bytes
     work-malformed h =
-        else-is (malformed product form bytes) 2 12 r (last bytes) judged h (never (inconsistent product (words bytes)))
+        else-is (malformed product (imageForm bytes) bytes) 2 12 r (last bytes) judged h (never (inconsistent product
+        (words bytes)))
         ∙ sym (read-fitting t bytes (f .size) (f .fits))
       where
         never : (i : Bool) → orElse i 3 0 ≡ 2 → ⊥
@@ -124,5 +128,5 @@ module _ (t bytes : List ℕ) (b : AllBytes bytes) (f : Fitting t bytes) (zeros 
         never false = λ z. omega (arith, z)
 
     pub work-answer : (r ≡ 2 → ⊥) → r ≡ readAnswer t bytes
-    work-answer h = else-not (malformed product form bytes) 2 12 r (last bytes) judged h
+    work-answer h = else-not (malformed product (imageForm bytes) bytes) 2 12 r (last bytes) judged h
         ∙ sym (read-fitting t bytes (f .size) (f .fits))

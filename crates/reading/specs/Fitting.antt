@@ -6,12 +6,12 @@ use mathlib.Core.List.{List}
 use lib.ListN.{length}
 use Rattle.rdfs.specs.Numbers.{product}
 use Rattle.rdfs.specs.Refusals.{badSize}
-use Rattle.contents.specs.ImageForm.{form}
+use Rattle.contents.specs.ImageForm.{imageForm}
 use Rattle.contents.specs.Reading.{wordsOf}
 use Rattle.contents.specs.WithinBytes.{HasContents}
 
 -- Bytes whose contents are right give no more words than a table has, whose size is right.
 pub record Fitting (table bytes : List ℕ) : Type 0 where
-  pub contents : HasContents form bytes
-  pub fits : length (wordsOf product form bytes) ≤ length table
+  pub contents : HasContents (imageForm bytes) bytes
+  pub fits : length (wordsOf product (imageForm bytes) bytes) ≤ length table
   pub size : badSize product table ≡ false

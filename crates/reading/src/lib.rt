@@ -1,13 +1,14 @@
 // An image, read into a lent table.
 //
 // The public call is `read`, which crate `image` passes on. It has no `requires`: it says, for all inputs,
-// what it answers and every word afterwards. `store_words` serves the crates above: the words of an image
+// what it answers and every word afterwards; an image with ten entries is read too, and has no fact of kind
+// 11. `store_words` serves the crates above: the words of an image
 // with right contents, without the check. The crate assumes nothing.
 ghost use Rattle.reading.specs.ReadPromise.{ReadPromise};
 
 mod reader;
 
-use contents::FORM;
+use contents::form_of;
 use contents::has_contents;
 use reader::count_words;
 use reader::overfull_refusal;
@@ -28,14 +29,15 @@ pub fn read(table: &mut [Word], image: &[u8]) -> u8
     if bad {
         return BAD_SIZE;
     }
-    let right = has_contents(FORM, image);
+    let form = form_of(image);
+    let right = has_contents(form, image);
     if !right {
         return MALFORMED;
     }
-    let count = count_words(FORM, image);
+    let count = count_words(form, image);
     let room = table.len();
     if room < count {
-        return overfull_refusal(FORM, image);
+        return overfull_refusal(form, image);
     }
     let mut work: [Word; MOST] = [0; MOST];
     read_through(table, &mut work[..room], image)

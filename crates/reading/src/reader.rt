@@ -6,17 +6,17 @@ ghost use lib.ListN.{length, drop, replicate};
 ghost use lib.Seq.{paste};
 ghost use Rattle.rdfs.specs.Numbers.{product};
 ghost use Rattle.rdfs.specs.Refusals.{orElse};
-ghost use Rattle.contents.specs.ImageForm.{form};
+ghost use Rattle.contents.specs.ImageForm.{imageForm};
 ghost use Rattle.contents.specs.Legible.{formOf};
 ghost use Rattle.contents.specs.Reading.{wordsFrom, wordsOf, malformed};
 ghost use Rattle.contents.specs.WithinBytes.{HasContents, HasFacts};
 ghost use Rattle.reading.specs.Fitting.{Fitting};
-ghost use Rattle.reading.specs.ReadPromise.{ReadPromise};
+ghost use Rattle.reading.specs.ReadPromise.{imageWords, ReadPromise};
 use consistency::check;
-use contents::FORM;
 use contents::Form;
 use contents::count_at;
 use contents::fact_size;
+use contents::form_of;
 use contents::is_rising;
 use contents::start_at;
 use contents::word_at;
@@ -99,15 +99,16 @@ fn fill_words(form: Form, table: &mut [Word], image: &[u8])
     }
 }
 
-// The same in the product's form. All who store an image's words call this one, so that the compiler has the
-// form's numbers where the words are made.
+// The same in the form that the image is read in. All who store an image's words call this one, so that the
+// compiler has the form's numbers where the words are made.
 pub fn store_words(table: &mut [Word], image: &[u8])
-    requires contents { ⌜ HasContents form (now image) ⌝ }
-    requires room { ⌜ length (wordsOf product form (now image)) ≤ length (now table) ⌝ }
-    ensures words { λ _. ⌜ now (table .exit) ≡ wordsOf product form (now (image .entry)) ++ drop
-        (length (wordsOf product form (now (image .entry)))) (now (table .entry)) ⌝ }
+    requires contents { ⌜ HasContents (imageForm (now image)) (now image) ⌝ }
+    requires room { ⌜ length (imageWords (now image)) ≤ length (now table) ⌝ }
+    ensures words { λ _. ⌜ now (table .exit) ≡ imageWords (now (image .entry)) ++ drop
+        (length (imageWords (now (image .entry)))) (now (table .entry)) ⌝ }
 {
-    fill_words(FORM, table, image);
+    let form = form_of(image);
+    fill_words(form, table, image);
 }
 
 // Reads an image with right contents and facts that fit, through a work table of as many zeros as the table

@@ -1,5 +1,5 @@
 -- What the rules before one have shown, where its test relies on it: one domain, or one range, for each
--- property.
+-- property. E2 has a pass of its own, without the index, and is not asked for.
 use Rattle.rdfs.specs.Facts.{Graph}
 use Rattle.rdfs.specs.Rules.{
   Rule,
@@ -32,6 +32,8 @@ use Rattle.rdfs.specs.Rules.{
   h2,
   h3,
   h4,
+  e1,
+  e2,
 }
 
 abbrev pub Earlier : Graph → Rule → Type 0
@@ -63,3 +65,5 @@ Earlier G h1 = Unit {0}
 Earlier G h2 = Unit {0}
 Earlier G h3 = Meets G r17
 Earlier G h4 = Meets G r17
+Earlier G e1 = Unit {0}
+Earlier G e2 = ⊥

@@ -10,6 +10,7 @@ use spans::all_subjects;
 use spans::has_least;
 use table::CLASS;
 use table::DOMAIN;
+use table::EXCLUSIVE;
 use table::INDIVIDUAL;
 use table::LITERAL;
 use table::MEMBER;
@@ -29,7 +30,7 @@ ghost use Rattle.rules.specs.Earlier.{Earlier};
 
 mod each;
 
-// The rules by their numbers in Fig. 3, and H1 to H4 of document 01.
+// The rules by their numbers in Fig. 3, H1 to H4 of document 01, E1 and E2 of document 02.
 pub enum Rule {
     R4,
     R5,
@@ -59,10 +60,12 @@ pub enum Rule {
     H2,
     H3,
     H4,
+    E1,
+    E2,
 }
 
 // Whether a rule is met: a test for every word of one kind, or a pass of its own. What the rules before it
-// have shown is required where its test relies on it.
+// have shown is required where its test relies on it. E2 is not asked for: it has no use of the index.
 pub fn meets<'a>(table: &'a [Word], index: &'a [u16], rule: Rule) -> bool
     requires words { ⌜ Indexed (now table) (now index) ⌝ }
     requires earlier { ⌜ Earlier (graphOf (now table)) (ruleOf rule) ⌝ }
@@ -97,5 +100,7 @@ pub fn meets<'a>(table: &'a [Word], index: &'a [u16], rule: Rule) -> bool
         Rule::H2 => all_meet(table, index, LITERAL, Test::IsLiteralOnly),
         Rule::H3 => all_meet(table, index, VALUE, Test::IsObjectLiteral),
         Rule::H4 => all_meet(table, index, SUBPROPERTY, Test::HasLikeRanges),
+        Rule::E1 => all_meet(table, index, EXCLUSIVE, Test::Has(PROPERTY)),
+        Rule::E2 => false,
     }
 }

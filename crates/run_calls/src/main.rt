@@ -13,7 +13,7 @@
 //     facts                  how many words the table has up to the last that is not 0
 //     words                  these words
 //     fresh                  the answer
-//     check                  the answer, and for 3 the first rule broken: of Fig. 3, then of H1 to H4
+//     check                  the answer, and for 3 the first rule broken: of Fig. 3, then of H1 to H4, E1, E2
 //     lookup WORD            the answer, and 1 if the word is present, else 0
 //     apply BYTES            the answer to the ticket, facts added, facts removed
 //     list NUMBER BYTES      by `apply_list` with NUMBER answer bytes, at most 2,048, each ff before the

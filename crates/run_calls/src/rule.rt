@@ -4,7 +4,7 @@ use libc::STDOUT_FILENO;
 use script::print_number;
 use script::print_text;
 
-// The number of a rule in Fig. 3; 27 more than its own for H1 to H4.
+// The number of a rule in Fig. 3; 27 more than its own for H1 to H4, 31 more for E1 and E2.
 fn number_of(rule: Rule) -> usize {
     match rule {
         Rule::R4 => 4,
@@ -35,16 +35,23 @@ fn number_of(rule: Rule) -> usize {
         Rule::H2 => 29,
         Rule::H3 => 30,
         Rule::H4 => 31,
+        Rule::E1 => 32,
+        Rule::E2 => 33,
     }
 }
 
-// A rule by its number; H1 to H4 after an H.
+// A rule by its number; H1 to H4 after an H, E1 and E2 after an E.
 pub fn print_rule(rule: Rule) {
     let number = number_of(rule);
     if number <= 27 {
         print_number(number);
         return;
     }
-    print_text(b" H");
-    io::print_decimal(STDOUT_FILENO, (number - 27) as u64);
+    if number <= 31 {
+        print_text(b" H");
+        io::print_decimal(STDOUT_FILENO, (number - 27) as u64);
+        return;
+    }
+    print_text(b" E");
+    io::print_decimal(STDOUT_FILENO, (number - 31) as u64);
 }

@@ -1,8 +1,9 @@
--- Decided: every function that branches on a test, and the crate above. SpanPlaces: `merge`. Entered: `fill_index`; its zeros for
--- the crate above too. Covering: `find_span`, `is_covered`. GroupStarts: `group_start`. SpanFacts: `present`, `schema`, `values`.
--- Stamping, Comparing, Carrying: `stamps`. Passed: `stamps`, `values` and the crate above. Inheriting: `all_inherited`.
+-- Decided: every function that branches on a test, and the crates above. SpanPlaces: `merge` and the crates above. Entered:
+-- `fill_index`; its stores and zeros for the crates above too. Covering: `find_span`, `is_covered`. GroupStarts: `group_start`.
+-- SpanFacts: `present`, `schema`, `values`. Stamping, Comparing, Carrying: `stamps`. Passed: `stamps`, `values` and the crates
+-- above. Inheriting: `all_inherited`.
 pub mod Decided
-mod SpanPlaces
+pub mod SpanPlaces
 pub mod Entered
 mod Covering
 mod GroupStarts

@@ -47,7 +47,7 @@ module _ {t : List ℕ} (k : ℕ) (Q : ℕ → ℕ → ℕ → Type 0) where
     passed-end h m l f = ⊎-elim (λ z. D .done m (omega arith) l f) (λ z. absurd (D .none m z l f)) (split m end)
 
 -- From the words of a kind to its facts.
-word-ids : (w k a b c : ℕ) → Id a → Id b → Id c → w ≡ wordOf k a b c → (kindOf w ≡ k) × (firstOf w ≡ a) × (secondOf w ≡ b)
+pub word-ids : (w k a b c : ℕ) → Id a → Id b → Id c → w ≡ wordOf k a b c → (kindOf w ≡ k) × (firstOf w ≡ a) × (secondOf w ≡ b)
     × (thirdOf w ≡ c)
 word-ids w k a b c p q r e = (omega arith, omega arith, omega arith, omega arith)
 

@@ -69,9 +69,10 @@ pub record Fillable (table index : List ℕ) : Type 0 where
   pub spans : length index ≡ spanCount
   pub zeros : (span : ℕ) → at index span ≡ 0
 
--- The words of a table with the index of their spans.
+-- The words of a table, no more than a table has, with the index of their spans.
 pub record Indexed (table index : List ℕ) : Type 0 where
   pub words : FactWords table
+  pub few : length table ≤ product .most
   pub starts : Index table index
 
 -- The place is that of the first word of a span, or the number of words if the span has none.

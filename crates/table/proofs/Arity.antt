@@ -29,19 +29,22 @@ pub kind-within : (k : ℕ) → 1 ≤ arity k → k ≤ kindCount
 kind-within k h = omega (arith, some-within (0 ∷ arities) k h)
 
 -- What holds of each kind.
-pub each-kind {ℓ} : (P : ℕ → Type ℓ) → P 1 → P 2 → P 3 → P 4 → P 5 → P 6 → P 7 → P 8 → P 9 → P 10 → (k : ℕ) → 1 ≤ arity k → P k
-each-kind P a b c d e f g h i j zero s = absurd (omega arith)
-each-kind P a b c d e f g h i j (suc zero) s = a
-each-kind P a b c d e f g h i j (suc (suc zero)) s = b
-each-kind P a b c d e f g h i j (suc (suc (suc zero))) s = c
-each-kind P a b c d e f g h i j (suc (suc (suc (suc zero)))) s = d
-each-kind P a b c d e f g h i j (suc (suc (suc (suc (suc zero))))) s = e
-each-kind P a b c d e f g h i j (suc (suc (suc (suc (suc (suc zero)))))) s = f
-each-kind P a b c d e f g h i j (suc (suc (suc (suc (suc (suc (suc zero))))))) s = g
-each-kind P a b c d e f g h i j (suc (suc (suc (suc (suc (suc (suc (suc zero)))))))) s = h
-each-kind P a b c d e f g h i j (suc (suc (suc (suc (suc (suc (suc (suc (suc zero))))))))) s = i
-each-kind P a b c d e f g h i j (suc (suc (suc (suc (suc (suc (suc (suc (suc (suc zero)))))))))) s = j
-each-kind P a b c d e f g h i j (suc (suc (suc (suc (suc (suc (suc (suc (suc (suc (suc k))))))))))) s = absurd (omega arith)
+pub each-kind {ℓ} : (P : ℕ → Type ℓ) → P 1 → P 2 → P 3 → P 4 → P 5 → P 6 → P 7 → P 8 → P 9 → P 10 → P 11 → (k : ℕ) → 1 ≤ arity k
+    → P k
+each-kind P a b c d e f g h i j m zero s = absurd (omega arith)
+each-kind P a b c d e f g h i j m (suc zero) s = a
+each-kind P a b c d e f g h i j m (suc (suc zero)) s = b
+each-kind P a b c d e f g h i j m (suc (suc (suc zero))) s = c
+each-kind P a b c d e f g h i j m (suc (suc (suc (suc zero)))) s = d
+each-kind P a b c d e f g h i j m (suc (suc (suc (suc (suc zero))))) s = e
+each-kind P a b c d e f g h i j m (suc (suc (suc (suc (suc (suc zero)))))) s = f
+each-kind P a b c d e f g h i j m (suc (suc (suc (suc (suc (suc (suc zero))))))) s = g
+each-kind P a b c d e f g h i j m (suc (suc (suc (suc (suc (suc (suc (suc zero)))))))) s = h
+each-kind P a b c d e f g h i j m (suc (suc (suc (suc (suc (suc (suc (suc (suc zero))))))))) s = i
+each-kind P a b c d e f g h i j m (suc (suc (suc (suc (suc (suc (suc (suc (suc (suc zero)))))))))) s = j
+each-kind P a b c d e f g h i j m (suc (suc (suc (suc (suc (suc (suc (suc (suc (suc (suc zero))))))))))) s = m
+each-kind P a b c d e f g h i j m (suc (suc (suc (suc (suc (suc (suc (suc (suc (suc (suc (suc k)))))))))))) s = absurd
+    (omega arith)
 
 -- A test of the arities of n kinds, from kind i on, says what holds of each: it is computed.
 abbrev pub tested : (ℕ → Bool) → ℕ → ℕ → Bool

@@ -6,7 +6,7 @@ use native.Mathlib.Omega.{arith}
 use native.Mathlib.Nat.{div-add-mod', mod-lt}
 use lib.Dec.{eqb, lit≤, lit<}
 use Rattle.rdfs.specs.Numbers.{Numbers, product, arity}
-use Rattle.rdfs.specs.Facts.{Fact, cl, pr, ind, lit, csub, psub, dom, rng, ci, pi, kind, first, second, third, made}
+use Rattle.rdfs.specs.Facts.{Fact, cl, pr, ind, lit, csub, psub, dom, rng, ci, pi, excl, kind, first, second, third, made}
 use Rattle.rdfs.specs.Words.{word, allowed, isFact}
 use Rattle.rdfs.proofs.lists.Tests.{Tests, tests-and, tests-eq, tests-as}
 use Rattle.rdfs.proofs.words.Digits.{digits, Below}
@@ -26,6 +26,7 @@ parts-shaped (dom a b) = two-ids 7 b refl
 parts-shaped (rng a b) = two-ids 8 b refl
 parts-shaped (ci a b) = two-ids 9 b refl
 parts-shaped (pi a b c) = three-ids 10 b c refl
+parts-shaped (excl a) = one-id 11 refl
 
 -- Shaped parts are those of the fact made of them.
 record Parts (k a b c : ℕ) (f : Fact) : Type 0 where
@@ -67,6 +68,7 @@ module _ (a b c : ℕ) where
       (of-two (lit≤ tt) (own-parts (rng a b)))
       (of-two (lit≤ tt) (own-parts (ci a b)))
       (λ _. own-parts (pi a b c))
+      (of-one (lit≤ tt) (own-parts (excl a)))
       k (s .some) s
 
 -- `allowed` by a fact's parts.
@@ -99,7 +101,7 @@ made-below : (B k a b c : ℕ) → a < B → b < B → c < B → Below B (made k
 made-below B k a b c p q r =
     choose 1 (of p z z) (choose 2 (of p z z)
     (choose 3 (of p z z) (choose 4 (of p z z) (choose 5 (of p q z) (choose 6 (of p q z) (choose 7 (of p q z)
-    (choose 8 (of p q z) (choose 9 (of p q z) (of p q r)))))))))
+    (choose 8 (of p q z) (choose 9 (of p q z) (choose 11 (of p z z) (of p q r))))))))))
   where
     z : 0 < B
     z = omega arith

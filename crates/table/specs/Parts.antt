@@ -3,7 +3,7 @@ use Prim.Native.Nat.{ℕ, _+_, _*_, _/_, _%_, _≤_, _<_}
 use mathlib.Core.Path.{_≡_}
 use mathlib.Core.List.{List, [], _∷_, map}
 use Rattle.rdfs.specs.Numbers.{product, arity}
-use Rattle.rdfs.specs.Facts.{cl, pr, ind, lit, csub, psub, dom, rng, ci, pi, kind}
+use Rattle.rdfs.specs.Facts.{cl, pr, ind, lit, csub, psub, dom, rng, ci, pi, excl, kind}
 
 abbrev pub kindOf : ℕ → ℕ
 kindOf word = word / product .base / product .base / product .base
@@ -21,10 +21,11 @@ thirdOf word = word % product .base
 abbrev pub wordOf : ℕ → ℕ → ℕ → ℕ → ℕ
 wordOf k a b c = ((k * product .base + a) * product .base + b) * product .base + c
 
--- The kinds' numbers, in the order in which `Fact` has them.
+-- The kinds' numbers, ascending.
 abbrev pub kindNumbers : List ℕ
 kindNumbers =
-    map kind (cl 0 ∷ pr 0 ∷ ind 0 ∷ lit 0 ∷ csub 0 0 ∷ psub 0 0 ∷ dom 0 0 ∷ rng 0 0 ∷ ci 0 0 ∷ pi 0 0 0 ∷ [])
+    map kind (cl 0 ∷ pr 0 ∷ ind 0 ∷ lit 0 ∷ csub 0 0 ∷ psub 0 0 ∷ dom 0 0 ∷ rng 0 0 ∷ ci 0 0 ∷ pi 0 0 0
+    ∷ excl 0 ∷ [])
 
 -- Numbers that make a word: a kind that leaves room for more kinds, ids that are digits.
 pub record Digits (k a b c : ℕ) : Type 0 where

@@ -41,6 +41,7 @@ pub use search::has_word;
 pub use words::BASE;
 pub use words::CLASS;
 pub use words::DOMAIN;
+pub use words::EXCLUSIVE;
 pub use words::INDIVIDUAL;
 pub use words::KINDS;
 pub use words::LITERAL;

@@ -18,7 +18,7 @@ pub const BAD_KIND: u8 = 6;
 pub const BAD_IDS: u8 = 7;
 // 8: deletion of Cl(0), or of CSub or CI with b = 0.
 pub const GUARDED: u8 = 8;
-// 9: insertion of PSub or PI with an id that is no property of the table.
+// 9: insertion of PSub, PI or Excl with an id that is no property of the table.
 pub const UNKNOWN_PROPERTY: u8 = 9;
 // 10: insertion where no consistent graph holds the table and the asked facts.
 pub const CLASHING: u8 = 10;

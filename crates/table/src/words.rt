@@ -34,7 +34,7 @@ pub const RESOURCE: Word = 0;
 // The mark Literal.
 pub const MARK: Word = 1;
 
-// The kinds: Cl, Pr, Ind, Lit, CSub, PSub, Dom, Rng, CI, PI.
+// The kinds: Cl, Pr, Ind, Lit, CSub, PSub, Dom, Rng, CI, PI, Excl.
 pub const CLASS: Word = 1;
 
 pub const PROPERTY: Word = 2;
@@ -55,8 +55,10 @@ pub const MEMBER: Word = 9;
 
 pub const VALUE: Word = 10;
 
+pub const EXCLUSIVE: Word = 11;
+
 // How many kinds there are.
-pub const KINDS: Word = 10;
+pub const KINDS: Word = 11;
 
 // The numbers that the definitions take as parameters.
 pub struct Limits {
@@ -91,6 +93,7 @@ pub fn kind_numbers() -> [Word; KINDS as usize]
         RANGE,
         MEMBER,
         VALUE,
+        EXCLUSIVE,
     ]
 }
 
@@ -114,7 +117,7 @@ pub fn arity_of(k: Word) -> Word
     ensures answer { λ r. ⌜ r ≡ arity k ⌝ }
 {
     match k {
-        CLASS | PROPERTY | INDIVIDUAL | LITERAL => 1,
+        CLASS | PROPERTY | INDIVIDUAL | LITERAL | EXCLUSIVE => 1,
         SUBCLASS | SUBPROPERTY | DOMAIN | RANGE | MEMBER => 2,
         VALUE => 3,
         _ => 0,

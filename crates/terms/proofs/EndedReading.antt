@@ -21,6 +21,7 @@ use Rattle.terms.specs.declared.term.Term.the-variants.{
   SubPropertyOf,
   Domain,
   Range,
+  Exclusive,
   Other,
 }
 use Rattle.terms.proofs.Fronts.{byte-then, byte-there, begins-long}
@@ -36,6 +37,7 @@ other-or-not SubClassOf = inr (λ e. let z : _≡_ {A = ℕ} 0 1 = cc in omega a
 other-or-not SubPropertyOf = inr (λ e. let z : _≡_ {A = ℕ} 0 1 = cc in omega arith)
 other-or-not Domain = inr (λ e. let z : _≡_ {A = ℕ} 0 1 = cc in omega arith)
 other-or-not Range = inr (λ e. let z : _≡_ {A = ℕ} 0 1 = cc in omega arith)
+other-or-not Exclusive = inr (λ e. let z : _≡_ {A = ℕ} 0 1 = cc in omega arith)
 other-or-not Other = inl refl
 
 module _ (text : List ℕ) (at : ℕ) (h : at ≤ length text) (term : Term) (r : TermRead (drop at text) term) where

@@ -23,6 +23,7 @@ use Rattle.terms.specs.declared.term.Term.the-variants.{
   SubPropertyOf,
   Domain,
   Range,
+  Exclusive,
   Other,
 }
 use Rattle.terms.proofs.IdSpelt.{id-number}
@@ -31,7 +32,7 @@ use Rattle.terms.proofs.Fronts.{agree, apart}
 
 -- The terms without a number in digits.
 abbrev pub fixedTerms : List Term
-fixedTerms = RdfType ∷ Property ∷ Class ∷ SubClassOf ∷ SubPropertyOf ∷ Domain ∷ Range ∷ Id 0 ∷ Id 1 ∷ []
+fixedTerms = RdfType ∷ Property ∷ Class ∷ SubClassOf ∷ SubPropertyOf ∷ Domain ∷ Range ∷ Id 0 ∷ Id 1 ∷ Exclusive ∷ []
 
 -- What stands in front of the digits.
 abbrev pub idFront : List ℕ
@@ -57,6 +58,7 @@ seen SubClassOf p = seen-fixed (there (there (there (here refl))))
 seen SubPropertyOf p = seen-fixed (there (there (there (there (here refl)))))
 seen Domain p = seen-fixed (there (there (there (there (there (here refl))))))
 seen Range p = seen-fixed (there (there (there (there (there (there (here refl)))))))
+seen Exclusive p = seen-fixed (there (there (there (there (there (there (there (there (there (here refl))))))))))
 seen Other p = absurd p
 
 -- The IRI of an id from 2 on.

@@ -2,7 +2,7 @@
 use Prim.Native.Nat.{ℕ, _+_, _≤_, _<_}
 use mathlib.Core.Path.{_≡_, refl, sym, ap, subst, _∙_}
 use mathlib.Core.Bool.{Bool, true}
-use mathlib.Core.List.{List, [], _∷_, _++_, map, append-cancel-left}
+use mathlib.Core.List.{List, [], _∷_, _++_, map, append-assoc, append-cancel-left}
 use native.Mathlib.Omega.{arith}
 use lib.Dec.{T}
 use lib.ListN.{length, drop, length-drop}
@@ -40,6 +40,9 @@ use Rattle.terms.proofs.Spelling.{
 }
 
 -- What stands in front of the local names.
+abbrev pub urnFront : List ℕ
+urnFront = bytes "<urn:"
+
 abbrev pub rdfFront : List ℕ
 rdfFront = bytes "<http://www.w3.org/1999/02/22-rdf-syntax-ns#"
 
@@ -133,5 +136,10 @@ module _ (text : List ℕ) (at : ℕ) (front : List ℕ) {b : Bool} (d : Decides
   pub behind-within : at ≤ length text → at + length front ≤ length text
   behind-within g = omega (arith, begins-long (drop at text) front there, length-drop at text)
 
-  pub behind-read : (t : Term) → TermRead (front ++ drop (at + length front) text) t → TermRead (drop at text) t
-  behind-read t r = subst (λ m. TermRead m t) (sym (there ∙ ap (λ m. front ++ m) (drop-drop (length front) at text))) r
+  -- Another front is read before.
+  pub behind-read : (before : List ℕ) (t : Term) → TermRead ((before ++ front) ++ drop (at + length front) text) t
+      → TermRead (before ++ drop at text) t
+  behind-read before t r =
+      let rest : List ℕ = drop (at + length front) text in
+      let whole : drop at text ≡ front ++ rest = there ∙ ap (λ m. front ++ m) (drop-drop (length front) at text) in
+      subst (λ m. TermRead m t) (append-assoc before front rest ∙ sym (ap (λ m. before ++ m) whole)) r

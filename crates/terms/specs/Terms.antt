@@ -16,6 +16,7 @@ use Rattle.terms.specs.declared.term.Term.the-variants.{
   SubPropertyOf,
   Domain,
   Range,
+  Exclusive,
   Other,
 }
 
@@ -58,6 +59,7 @@ spelt SubClassOf = rdfs "subClassOf>"
 spelt SubPropertyOf = rdfs "subPropertyOf>"
 spelt Domain = rdfs "domain>"
 spelt Range = rdfs "range>"
+spelt Exclusive = bytes "<urn:mark:excl>"
 spelt Other = []
 
 -- Bytes with a blank behind them.
@@ -75,4 +77,5 @@ Proper top SubClassOf = Unit {0}
 Proper top SubPropertyOf = Unit {0}
 Proper top Domain = Unit {0}
 Proper top Range = Unit {0}
+Proper top Exclusive = Unit {0}
 Proper top Other = ⊥

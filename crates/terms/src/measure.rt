@@ -47,6 +47,7 @@ pub fn term_length(term: Term) -> usize
         Term::SubPropertyOf => 52,
         Term::Domain => 45,
         Term::Range => 44,
+        Term::Exclusive => 15,
         Term::Other => 0,
     }
 }

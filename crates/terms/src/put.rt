@@ -96,6 +96,7 @@ fn put_term(output: &mut [u8], at: usize, term: Term) -> usize
         Term::SubPropertyOf => put_rdfs(output, at, b"subPropertyOf>"),
         Term::Domain => put_rdfs(output, at, b"domain>"),
         Term::Range => put_rdfs(output, at, b"range>"),
+        Term::Exclusive => put_piece(output, at, b"<urn:mark:excl>"),
         Term::Other => at,
     }
 }

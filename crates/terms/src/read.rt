@@ -122,6 +122,22 @@ fn id_at(text: &[u8], at: usize) -> Term
     Term::Id(n)
 }
 
+// The IRI of an id from 2 on, or the object of a line of Excl, of which `<urn:` is read.
+fn urn_at(text: &[u8], at: usize) -> Term
+    requires place { ⌜ at ≤ length (now text) ⌝ }
+    ensures answer { λ r. ⌜ TermRead (bytes "<urn:" ++ drop at (now (text .entry))) r ⌝ }
+{
+    let id = has_at(text, at, b"id:");
+    if id {
+        return id_at(text, at + 3);
+    }
+    let is_exclusive = has_at(text, at, b"mark:excl>");
+    if is_exclusive {
+        return Term::Exclusive;
+    }
+    Term::Other
+}
+
 // The term of a literal, of which the first quotation mark is read.
 fn literal_at(text: &[u8], at: usize) -> Term
     requires place { ⌜ at ≤ length (now text) ⌝ }
@@ -193,9 +209,9 @@ fn term_at(text: &[u8], at: usize) -> Term
     requires place { ⌜ at ≤ length (now text) ⌝ }
     ensures answer { λ r. ⌜ TermRead (drop at (now (text .entry))) r ⌝ }
 {
-    let id = has_at(text, at, b"<urn:id:");
-    if id {
-        return id_at(text, at + 8);
+    let urn = has_at(text, at, b"<urn:");
+    if urn {
+        return urn_at(text, at + 5);
     }
     let rdfs = has_at(text, at, b"<http://www.w3.org/2000/01/rdf-schema#");
     if rdfs {

@@ -14,6 +14,8 @@ pub enum Term {
     SubPropertyOf,
     Domain,
     Range,
+    // The object of a line of Excl.
+    Exclusive,
     // No term of the profile.
     Other,
 }

@@ -73,7 +73,8 @@ module _ (o k a b c : ℕ) (e : formRefusal (ticketOf o k a b c) ≡ 0) where
   formed-shaped m =
       let some : 1 ≤ arity k =
       by-kind (λ k. 1 ≤ arity k) k (known-kind given (p .kind))
-      (omega arith) (omega arith) (omega arith) (omega arith) (omega arith) (omega arith) (omega arith) (omega arith) in
+      (omega arith) (omega arith) (omega arith) (omega arith) (omega arith) (omega arith) (omega arith) (omega arith)
+      (omega arith) in
       let own : used given ≡ arity k = simp m in
       record {
         some = some;

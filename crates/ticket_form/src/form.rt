@@ -12,6 +12,7 @@ use table::BAD_IDS;
 use table::BAD_KIND;
 use table::BAD_OPERATION;
 use table::CLASS;
+use table::EXCLUSIVE;
 use table::GUARDED;
 use table::INDIVIDUAL;
 use table::LITERAL;
@@ -49,6 +50,7 @@ fn is_bad_kind(ticket: Ticket) -> bool
         SUBPROPERTY => false,
         MEMBER => false,
         VALUE => false,
+        EXCLUSIVE => false,
         _ => true,
     }
 }

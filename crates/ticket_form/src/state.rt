@@ -8,6 +8,7 @@ ghost use Rattle.table.specs.Counted.{Counted, Id, factsOf};
 ghost use Rattle.ticket_form.specs.TicketForm.{Asked};
 use clash::has_property;
 use table::CLASS;
+use table::EXCLUSIVE;
 use table::MEMBER;
 use table::PROPERTY;
 use table::SUBPROPERTY;
@@ -39,7 +40,8 @@ fn lacks_either(table: &[Word], count: usize, x: Word, y: Word) -> bool
     lacks_property(table, count, y)
 }
 
-// Refusal 9: an insertion of PSub with a or b not a property of the table, or of PI with c not one.
+// Refusal 9: an insertion of PSub with a or b not a property of the table, of PI with c not one, or of Excl
+// with a not one.
 pub fn is_unknown_property(table: &[Word], count: usize, k: Word, a: Word, b: Word, c: Word) -> bool
     requires asked { ⌜ Asked (now table) count 1 k a b c ⌝ }
     ensures answer { λ r. ⌜ r ≡ unknownProperty (factsOf (now (table .entry))) (ticketOf 1 k a b c) ⌝ }
@@ -47,6 +49,7 @@ pub fn is_unknown_property(table: &[Word], count: usize, k: Word, a: Word, b: Wo
     match k {
         SUBPROPERTY => lacks_either(table, count, a, b),
         VALUE => lacks_property(table, count, c),
+        EXCLUSIVE => lacks_property(table, count, a),
         _ => false,
     }
 }

@@ -6,7 +6,7 @@ use mathlib.Core.Logic.{⊎-elim}
 use native.Mathlib.Omega.{arith}
 use lib.Dec.{T, leb, le→leb}
 use Rattle.rdfs.specs.Numbers.{product}
-use Rattle.rdfs.specs.Facts.{Fact, cl, pr, csub, psub, dom, rng, ci, pi, made}
+use Rattle.rdfs.specs.Facts.{Fact, cl, pr, excl, csub, psub, dom, rng, ci, pi, made}
 use Rattle.rdfs.specs.Words.{word, fact, allowed, isFact}
 use Rattle.rdfs.proofs.lists.Tests.{and-both, both-and}
 use Rattle.rdfs.proofs.words.Tables.{word-is-fact}
@@ -17,7 +17,8 @@ use Rattle.table.proofs.Arity.{kind-some}
 use Rattle.table.proofs.FactParts.{made-same, word-shaped}
 use Rattle.triple_form.specs.Lines.{Line, hasLine, subject, predicate, object, inProfile}
 use Rattle.triple_form.specs.LineRead.{wordLine, FactOf}
-use Rattle.triple_form.specs.FactTerms.{Known, idIn, isLiteral, kindBy}
+use Rattle.triple_form.specs.FactTerms.{Known, idIn, isLiteral}
+use Rattle.triple_form.specs.FactKinds.{kindBy}
 use Rattle.terms.specs.declared.term.Term.{Term}
 use Rattle.terms.specs.declared.term.Term.the-variants.{
   Id,
@@ -29,6 +30,7 @@ use Rattle.terms.specs.declared.term.Term.the-variants.{
   SubPropertyOf,
   Domain,
   Range,
+  Exclusive,
   Other,
 }
 use Rattle.triple_form.proofs.TermParts.{
@@ -48,6 +50,7 @@ use Rattle.triple_form.proofs.TermParts.{
   a-member,
   a-value,
   a-literal,
+  an-exclusive,
   pair,
   kind-below,
 }
@@ -84,6 +87,7 @@ tells a _ _ (a-member b) k h = plain (ci a b) tt h
 tells a _ _ (a-value b c) k h = plain (pi a b c) tt h
 tells a _ _ (a-literal b c) k h = own (record { fact = pi a b c; literal = true })
     (both-and (allowed (product .top) (pi a b c)) (leb 2 b) h (le→leb 2 b (literal-from b k)))
+tells a _ _ an-exclusive k h = plain (excl a) tt h
 
 -- The ids of terms are digits.
 id-below : (t : Term) → Known (product .top) t → idIn t < product .base
@@ -96,6 +100,7 @@ id-below SubClassOf k = omega arith
 id-below SubPropertyOf k = omega arith
 id-below Domain k = omega arith
 id-below Range k = omega arith
+id-below Exclusive k = omega arith
 id-below Other k = omega arith
 
 -- The kind and the fact of digits.

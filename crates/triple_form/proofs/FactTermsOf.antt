@@ -5,7 +5,7 @@ use mathlib.Core.Bool.{Bool, true, not, _||_}
 use lib.Dec.{T, eqb}
 use borrow.Author.Tests.{ne-eqb}
 use Rattle.rdfs.specs.Numbers.{product}
-use Rattle.rdfs.specs.Facts.{Fact, cl, pr, ind, lit, csub, psub, dom, rng, ci, pi, kind, first, second, made}
+use Rattle.rdfs.specs.Facts.{Fact, cl, pr, ind, lit, excl, csub, psub, dom, rng, ci, pi, kind, first, second, made}
 use Rattle.rdfs.specs.Words.{fact, isFact}
 use Rattle.table.specs.Parts.{kindOf, firstOf, secondOf, thirdOf}
 use Rattle.table.proofs.FactParts.{fact-kind, fact-first, fact-second}
@@ -24,6 +24,7 @@ subject-first (dom a b) h = refl
 subject-first (rng a b) h = refl
 subject-first (ci a b) h = refl
 subject-first (pi a b c) h = refl
+subject-first (excl a) h = refl
 
 predicate-typed : (f : Fact) → T (hasLine f) → (kind f ≡ 5 → ⊥) → (kind f ≡ 6 → ⊥) → (kind f ≡ 7 → ⊥) → (kind f ≡ 8 → ⊥)
     → (kind f ≡ 10 → ⊥) → predicate f ≡ RdfType
@@ -37,19 +38,21 @@ predicate-typed (dom a b) h n5 n6 n7 n8 n10 = absurd (n7 refl)
 predicate-typed (rng a b) h n5 n6 n7 n8 n10 = absurd (n8 refl)
 predicate-typed (ci a b) h n5 n6 n7 n8 n10 = refl
 predicate-typed (pi a b c) h n5 n6 n7 n8 n10 = absurd (n10 refl)
+predicate-typed (excl a) h n5 n6 n7 n8 n10 = refl
 
 object-second : (literal : Bool) (f : Fact) → T (hasLine f) → (kind f ≡ 1 → ⊥) → (kind f ≡ 2 → ⊥) → (kind f ≡ 10 → ⊥)
-    → object literal f ≡ Id (second f)
-object-second literal (cl a) h n1 n2 n10 = absurd (n1 refl)
-object-second literal (pr a) h n1 n2 n10 = absurd (n2 refl)
-object-second literal (ind a) h n1 n2 n10 = absurd h
-object-second literal (lit a) h n1 n2 n10 = absurd h
-object-second literal (csub a b) h n1 n2 n10 = refl
-object-second literal (psub a b) h n1 n2 n10 = refl
-object-second literal (dom a b) h n1 n2 n10 = refl
-object-second literal (rng a b) h n1 n2 n10 = refl
-object-second literal (ci a b) h n1 n2 n10 = refl
-object-second literal (pi a b c) h n1 n2 n10 = absurd (n10 refl)
+    → (kind f ≡ 11 → ⊥) → object literal f ≡ Id (second f)
+object-second literal (cl a) h n1 n2 n10 n11 = absurd (n1 refl)
+object-second literal (pr a) h n1 n2 n10 n11 = absurd (n2 refl)
+object-second literal (ind a) h n1 n2 n10 n11 = absurd h
+object-second literal (lit a) h n1 n2 n10 n11 = absurd h
+object-second literal (csub a b) h n1 n2 n10 n11 = refl
+object-second literal (psub a b) h n1 n2 n10 n11 = refl
+object-second literal (dom a b) h n1 n2 n10 n11 = refl
+object-second literal (rng a b) h n1 n2 n10 n11 = refl
+object-second literal (ci a b) h n1 n2 n10 n11 = refl
+object-second literal (pi a b c) h n1 n2 n10 n11 = absurd (n10 refl)
+object-second literal (excl a) h n1 n2 n10 n11 = absurd (n11 refl)
 
 -- The same by the fact's word.
 pub fact-of-kind : (w k : ℕ) → kindOf w ≡ k → fact (product .base) w ≡ made k (firstOf w) (secondOf w) (thirdOf w)
@@ -77,6 +80,6 @@ module _ (w : ℕ) (h : T (isFact product w)) where
     word-typed n5 n6 n7 n8 n10 = predicate-typed its line (not-kind n5) (not-kind n6) (not-kind n7) (not-kind n8) (not-kind n10)
 
     pub word-object : (literal : Bool) → (kindOf w ≡ 1 → ⊥) → (kindOf w ≡ 2 → ⊥) → (kindOf w ≡ 10 → ⊥)
-        → object literal (fact (product .base) w) ≡ Id (secondOf w)
-    word-object literal n1 n2 n10 =
-        object-second literal its line (not-kind n1) (not-kind n2) (not-kind n10) ∙ ap Id (fact-second w h)
+        → (kindOf w ≡ 11 → ⊥) → object literal (fact (product .base) w) ≡ Id (secondOf w)
+    word-object literal n1 n2 n10 n11 =
+        object-second literal its line (not-kind n1) (not-kind n2) (not-kind n10) (not-kind n11) ∙ ap Id (fact-second w h)

@@ -6,7 +6,7 @@ use mathlib.Core.List.{List, _++_, append-assoc}
 use lib.Dec.{T, eqb, leb, leb→le}
 use lib.ListN.{drop}
 use Rattle.rdfs.specs.Numbers.{product}
-use Rattle.rdfs.specs.Facts.{Fact, cl, pr, ind, lit, csub, psub, dom, rng, ci, pi, kind, second}
+use Rattle.rdfs.specs.Facts.{Fact, cl, pr, ind, lit, excl, csub, psub, dom, rng, ci, pi, kind, second}
 use Rattle.rdfs.specs.Words.{allowed}
 use Rattle.rdfs.proofs.lists.Tests.{and-both}
 use Rattle.rdfs.proofs.words.Allowed.{Ids, allowed-ids}
@@ -39,6 +39,7 @@ known (rng a b) l h i g = (i .0 .0, tt, i .1)
 known (ci a b) l h i g = (i .0 .0, tt, i .1 .0)
 known (pi a b c) false h i g = (i .0 .0, i .2 .0, i .1 .0)
 known (pi a b c) true h i g = (i .0 .0, i .2 .0, (leb→le 2 b (g tt), i .1 .0))
+known (excl a) l h i g = (i .0, tt, tt)
 
 literal-from : (l : Bool) (k n : ℕ) → T (not l || (eqb k 10 && leb 2 n)) → T l → T (leb 2 n)
 literal-from true k n h _ = and-both (eqb k 10) (leb 2 n) h .1

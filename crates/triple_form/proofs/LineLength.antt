@@ -9,7 +9,7 @@ use lib.Dec.{T, eqb, leb}
 use lib.ListN.{length, length-append}
 use borrow.Author.Tests.{eqb-true, eqb-false}
 use Rattle.rdfs.specs.Numbers.{product}
-use Rattle.rdfs.specs.Facts.{Fact, cl, pr, ind, lit, csub, psub, dom, rng, ci, pi, kind, second}
+use Rattle.rdfs.specs.Facts.{Fact, cl, pr, ind, lit, excl, csub, psub, dom, rng, ci, pi, kind, second}
 use Rattle.rdfs.specs.Words.{fact, isFact, allowed}
 use Rattle.rdfs.proofs.lists.Tests.{and-both}
 use Rattle.rdfs.proofs.words.Allowed.{Fields, fields}
@@ -71,6 +71,7 @@ terms-short literal (rng a b) h = omega (arith, id-short a (h .one), id-short b 
 terms-short literal (ci a b) h = omega (arith, id-short a (h .one), id-short b (h .two))
 terms-short literal (pi a b c) h =
     omega (arith, id-short a (h .one), value-short literal b a c (h .two), id-short c (h .three))
+terms-short literal (excl a) h = omega (arith, id-short a (h .one))
 
 allowed-short : (line : Line) → T (allowed (product .top) (line .fact)) → length (lineOf line) ≤ 154
 allowed-short line h =

@@ -6,12 +6,13 @@ use native.Mathlib.Omega.{arith}
 use native.Mathlib.Decide.{decLt}
 use lib.Dec.{T}
 use Rattle.rdfs.specs.Numbers.{product}
-use Rattle.rdfs.specs.Facts.{Fact, cl, pr, ind, lit, csub, psub, dom, rng, ci, pi, made}
+use Rattle.rdfs.specs.Facts.{Fact, cl, pr, ind, lit, excl, csub, psub, dom, rng, ci, pi, made}
 use Rattle.rdfs.specs.Words.{word, allowed}
 use Rattle.rdfs.proofs.lists.Tests.{and-both}
 use Rattle.table.specs.Parts.{wordOf}
 use Rattle.triple_form.specs.Lines.{Line, subject, predicate, object, inProfile}
-use Rattle.triple_form.specs.FactTerms.{idIn, isLiteral, typedKind, linkedKind, valueKind, kindBy}
+use Rattle.triple_form.specs.FactTerms.{idIn, isLiteral}
+use Rattle.triple_form.specs.FactKinds.{typedKind, linkedKind, valueKind, kindBy}
 use Rattle.terms.specs.declared.term.Term.{Term}
 use Rattle.terms.specs.declared.term.Term.the-variants.{
   Id,
@@ -23,6 +24,7 @@ use Rattle.terms.specs.declared.term.Term.the-variants.{
   SubPropertyOf,
   Domain,
   Range,
+  Exclusive,
   Other,
 }
 
@@ -61,6 +63,8 @@ again (ci a b) false h = (refl, refl)
 again (ci a b) true h = absurd (no-literal (allowed (product .top) (ci a b)) h)
 again (pi a b c) false h = (refl, refl)
 again (pi a b c) true h = (refl, refl)
+again (excl a) false h = (refl, refl)
+again (excl a) true h = absurd (no-literal (allowed (product .top) (excl a)) h)
 
 module _ (x : Line) (h : T (inProfile (product .top) x)) where
   pub line-again : lineFrom (subject (x .fact)) (predicate (x .fact)) (object (x .literal) (x .fact)) ≡ x
@@ -81,6 +85,7 @@ linked P k SubClassOf f h = absurd (omega arith)
 linked P k SubPropertyOf f h = absurd (omega arith)
 linked P k Domain f h = absurd (omega arith)
 linked P k Range f h = absurd (omega arith)
+linked P k Exclusive f h = absurd (omega arith)
 linked P k Other f h = absurd (omega arith)
 
 -- The predicates and objects that tell a kind.
@@ -94,6 +99,7 @@ pub data Pair : Term → Term → Type 0 where
   a-member : (b : ℕ) → Pair RdfType (Id b)
   a-value : (b c : ℕ) → Pair (Id c) (Id b)
   a-literal : (b c : ℕ) → Pair (Id c) (Literal b)
+  an-exclusive : Pair RdfType Exclusive
 
 typed : (o : Term) → 1 ≤ typedKind o → Pair RdfType o
 typed (Id n) h = a-member n
@@ -105,6 +111,7 @@ typed SubClassOf h = absurd (omega arith)
 typed SubPropertyOf h = absurd (omega arith)
 typed Domain h = absurd (omega arith)
 typed Range h = absurd (omega arith)
+typed Exclusive h = an-exclusive
 typed Other h = absurd (omega arith)
 
 valued : (c : ℕ) (o : Term) → 1 ≤ valueKind o → Pair (Id c) o
@@ -117,6 +124,7 @@ valued c SubClassOf h = absurd (omega arith)
 valued c SubPropertyOf h = absurd (omega arith)
 valued c Domain h = absurd (omega arith)
 valued c Range h = absurd (omega arith)
+valued c Exclusive h = absurd (omega arith)
 valued c Other h = absurd (omega arith)
 
 pub pair : (p o : Term) → 1 ≤ kindBy p o → Pair p o
@@ -129,6 +137,7 @@ pair SubClassOf o h = linked (Pair SubClassOf) 5 o a-subclass h
 pair SubPropertyOf o h = linked (Pair SubPropertyOf) 6 o a-subproperty h
 pair Domain o h = linked (Pair Domain) 7 o a-domain h
 pair Range o h = linked (Pair Range) 8 o a-range h
+pair Exclusive o h = absurd (omega arith)
 pair Other o h = absurd (omega arith)
 
 -- A kind is a digit.
@@ -142,6 +151,7 @@ pair-below _ _ (a-range b) = omega arith
 pair-below _ _ (a-member b) = omega arith
 pair-below _ _ (a-value b c) = omega arith
 pair-below _ _ (a-literal b c) = omega arith
+pair-below _ _ an-exclusive = omega arith
 
 pub kind-below : (s p o : Term) → kindFrom s p o < 16
 kind-below s p o = elim (decLt 0 (kindFrom s p o)) [

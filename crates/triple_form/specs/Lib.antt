@@ -1,3 +1,4 @@
 pub mod Lines
 pub mod FactTerms
+pub mod FactKinds
 pub mod LineRead

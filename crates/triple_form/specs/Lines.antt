@@ -3,7 +3,7 @@ use Prim.Native.Nat.{ℕ}
 use mathlib.Core.Bool.{Bool, not, _&&_, _||_, cond}
 use mathlib.Core.List.{List, _++_}
 use lib.Dec.{eqb, leb}
-use Rattle.rdfs.specs.Facts.{Fact, cl, pr, ind, lit, csub, psub, dom, rng, ci, pi, kind, second}
+use Rattle.rdfs.specs.Facts.{Fact, cl, pr, ind, lit, excl, csub, psub, dom, rng, ci, pi, kind, second}
 use Rattle.rdfs.specs.Words.{allowed}
 use Rattle.terms.specs.Terms.{bytes, spelt, ended}
 use Rattle.terms.specs.declared.term.Term.{Term}
@@ -17,6 +17,7 @@ use Rattle.terms.specs.declared.term.Term.the-variants.{
   SubPropertyOf,
   Domain,
   Range,
+  Exclusive,
   Other,
 }
 
@@ -41,6 +42,7 @@ subject (dom a b) = Id a
 subject (rng a b) = Id a
 subject (ci a b) = Id a
 subject (pi a b c) = Id a
+subject (excl a) = Id a
 
 abbrev pub predicate : Fact → Term
 predicate (cl a) = RdfType
@@ -53,6 +55,7 @@ predicate (dom a b) = Domain
 predicate (rng a b) = Range
 predicate (ci a b) = RdfType
 predicate (pi a b c) = Id c
+predicate (excl a) = RdfType
 
 abbrev pub object : Bool → Fact → Term
 object literal (cl a) = Class
@@ -65,6 +68,7 @@ object literal (dom a b) = Id b
 object literal (rng a b) = Id b
 object literal (ci a b) = Id b
 object literal (pi a b c) = cond literal (Literal b) (Id b)
+object literal (excl a) = Exclusive
 
 -- Three terms with one blank between, then a blank, a full stop and a newline.
 unfoldable pub lineOf : Line → List ℕ

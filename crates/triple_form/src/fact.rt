@@ -1,11 +1,12 @@
 // The fact whose line has three terms.
 ghost use mathlib.Core.Path.{_≡_};
 ghost use Rattle.rdfs.specs.Numbers.{product};
-ghost use Rattle.triple_form.specs.FactTerms.{idIn, isLiteral, typedKind, linkedKind};
-ghost use Rattle.triple_form.specs.FactTerms.{valueKind, kindBy, Known};
+ghost use Rattle.triple_form.specs.FactTerms.{Known, idIn, isLiteral};
+ghost use Rattle.triple_form.specs.FactKinds.{typedKind, linkedKind, valueKind, kindBy};
 ghost use Rattle.triple_form.specs.LineRead.{FactOf};
 use table::CLASS;
 use table::DOMAIN;
+use table::EXCLUSIVE;
 use table::MEMBER;
 use table::PROPERTY;
 use table::RANGE;
@@ -37,6 +38,7 @@ fn id_in(term: Term) -> Word
         Term::SubPropertyOf => 0,
         Term::Domain => 0,
         Term::Range => 0,
+        Term::Exclusive => 0,
         Term::Other => 0,
     }
 }
@@ -55,6 +57,7 @@ fn is_literal(term: Term) -> bool
         Term::SubPropertyOf => false,
         Term::Domain => false,
         Term::Range => false,
+        Term::Exclusive => false,
         Term::Other => false,
     }
 }
@@ -67,6 +70,7 @@ fn typed_kind(object: Term) -> Word
         Term::Class => CLASS,
         Term::Property => PROPERTY,
         Term::Id(_) => MEMBER,
+        Term::Exclusive => EXCLUSIVE,
         Term::Literal(_) => 0,
         Term::RdfType => 0,
         Term::SubClassOf => 0,
@@ -91,6 +95,7 @@ fn linked_kind(k: Word, term: Term) -> Word
         Term::SubPropertyOf => 0,
         Term::Domain => 0,
         Term::Range => 0,
+        Term::Exclusive => 0,
         Term::Other => 0,
     }
 }
@@ -109,6 +114,7 @@ fn value_kind(object: Term) -> Word
         Term::SubPropertyOf => 0,
         Term::Domain => 0,
         Term::Range => 0,
+        Term::Exclusive => 0,
         Term::Other => 0,
     }
 }
@@ -127,6 +133,7 @@ fn kind_by(predicate: Term, object: Term) -> Word
         Term::Literal(_) => 0,
         Term::Property => 0,
         Term::Class => 0,
+        Term::Exclusive => 0,
         Term::Other => 0,
     }
 }

@@ -14,6 +14,7 @@ ghost use Rattle.terms.specs.declared.term.Term.the-variants.{Id, Literal};
 use crate::fact::fact_of;
 use table::CLASS;
 use table::DOMAIN;
+use table::EXCLUSIVE;
 use table::INDIVIDUAL;
 use table::LITERAL;
 use table::PROPERTY;
@@ -58,7 +59,7 @@ pub fn has_line(word: Word) -> bool
     true
 }
 
-// The predicate of a fact's line: rdf:type for Cl, Pr and CI.
+// The predicate of a fact's line: rdf:type for Cl, Pr, CI and Excl.
 fn predicate_of(word: Word) -> Term
     requires fact { ⌜ T (isFact product word) ⌝ }
     requires line { ⌜ T (hasLine (fact (product .base) word)) ⌝ }
@@ -87,6 +88,7 @@ fn object_of(word: Word, literal: bool) -> Term
         CLASS => Term::Class,
         PROPERTY => Term::Property,
         VALUE => value_term(b, literal),
+        EXCLUSIVE => Term::Exclusive,
         _ => Term::Id(b),
     }
 }

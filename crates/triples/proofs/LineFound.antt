@@ -9,7 +9,7 @@ use lib.ListN.{take, getD}
 use Rattle.rdfs.specs.Numbers.{product}
 use Rattle.rdfs.specs.Lists.{_∈_, here, there, filter, concatMap}
 use Rattle.rdfs.specs.Orders.{sameBytes}
-use Rattle.rdfs.specs.Facts.{Fact, cl, pr, ind, lit, csub, psub, dom, rng, ci, pi, kind, made}
+use Rattle.rdfs.specs.Facts.{Fact, cl, pr, ind, lit, excl, csub, psub, dom, rng, ci, pi, kind, made}
 use Rattle.rdfs.proofs.lists.Tests.{and-both, both-and}
 use Rattle.rdfs.proofs.lists.ListLaws.{none-in, in-cons, in-filter, filter-in, concatMap-in}
 use Rattle.rdfs.proofs.register.Perms.{bytes-eq, bytes-refl}
@@ -19,7 +19,7 @@ use Rattle.triple_form.specs.Lines.{Line, hasLine, subject, predicate, object, 
 use Rattle.terms.specs.declared.term.Term.{Term}
 use Rattle.terms.proofs.Spelling.{spelt-free}
 use Rattle.triple_form.proofs.LineLaws.{line-one, line-known}
-use Rattle.triples.specs.TextRead.{cutAfter, idOf, bothOf, couldBe, lineRead}
+use Rattle.triples.specs.TextRead.{cutAfter, idOf, bothOf, lineKinds, couldBe, lineRead}
 use Rattle.triples.proofs.CutAfter.{Free, cut-ended}
 use Rattle.triples.proofs.IdOf.{tells, tells-id, tells-literal}
 
@@ -38,7 +38,7 @@ parts s p o a b c =
 
 -- The lines of each kind with three ids.
 abbrev could : ℕ → ℕ → ℕ → List Line
-could a b c = concatMap (λ k. bothOf (made k a b c)) (1 ∷ 2 ∷ 5 ∷ 6 ∷ 7 ∷ 8 ∷ 9 ∷ 10 ∷ [])
+could a b c = concatMap (λ k. bothOf (made k a b c)) lineKinds
 
 in-both : (x : Line) (f : Fact) → f ≡ x .fact → x ∈ bothOf f
 in-both x f e = by (x .literal) refl
@@ -48,7 +48,7 @@ in-both x f e = by (x .literal) refl
     by true d = there (here (λ i. record { fact = sym e i; literal = d i }))
 
 -- The kind of a fact with a line is among them.
-kind-there : (f : Fact) → T (hasLine f) → kind f ∈ (1 ∷ 2 ∷ 5 ∷ 6 ∷ 7 ∷ 8 ∷ 9 ∷ 10 ∷ [])
+kind-there : (f : Fact) → T (hasLine f) → kind f ∈ lineKinds
 kind-there (cl a) t = here refl
 kind-there (pr a) t = there (here refl)
 kind-there (ind a) t = absurd t
@@ -59,6 +59,7 @@ kind-there (dom a b) t = there (there (there (there (here refl))))
 kind-there (rng a b) t = there (there (there (there (there (here refl)))))
 kind-there (ci a b) t = there (there (there (there (there (there (here refl))))))
 kind-there (pi a b c) t = there (there (there (there (there (there (there (here refl)))))))
+kind-there (excl a) t = there (there (there (there (there (there (there (there (here refl))))))))
 
 -- A fact with a line is made of what its terms tell.
 made-told : (f : Fact) (l : Bool) → Proper top (subject f) → Proper top (predicate f) → Proper top (object l f)
@@ -74,6 +75,7 @@ made-told (rng a b) l s p o = λ i. rng (tells-id a s i) (tells-id b o i)
 made-told (ci a b) l s p o = λ i. ci (tells-id a s i) (tells-id b o i)
 made-told (pi a b c) false s p o = λ i. pi (tells-id a s i) (tells-id b o i) (tells-id c p i)
 made-told (pi a b c) true s p o = λ i. pi (tells-id a s i) (tells-literal b (o .0) (o .1) i) (tells-id c p i)
+made-told (excl a) l s p o = ap excl (tells-id a s)
 
 could-be : (x : Line) → T (inProfile top x)
     → couldBe top (lineOf x)

@@ -1,13 +1,14 @@
 -- Worked examples of texts, computed on the definitions. Assumes nothing.
+use Prim.Native.Nat.{ℕ}
 use mathlib.Core.Path.{_≡_, refl}
-use mathlib.Core.Bool.{true}
-use mathlib.Core.List.{List, [], _∷_, map}
+use mathlib.Core.Bool.{true, false}
+use mathlib.Core.List.{List, [], _∷_, _++_, map}
 use lib.ListN.{length}
 use Rattle.rdfs.specs.Numbers.{product}
-use Rattle.rdfs.specs.Facts.{Fact, cl, pr, ind, lit, csub, dom, rng, ci, pi}
+use Rattle.rdfs.specs.Facts.{Fact, cl, pr, ind, lit, excl, csub, dom, rng, ci, pi}
 use Rattle.rdfs.specs.Words.{words}
-use Rattle.terms.specs.Terms.{bytes, decimal}
-use Rattle.triple_form.specs.Lines.{lineOf}
+use Rattle.terms.specs.Terms.{bytes, rdf, rdfs, decimal}
+use Rattle.triple_form.specs.Lines.{Line, lineOf}
 use Rattle.triples.specs.Texts.{linesFor, textOf}
 use Rattle.triples.specs.TextRead.{linesRead, lineRead, textWords}
 
@@ -33,3 +34,33 @@ last-line = refl
 whole : textWords product (textOf plant) ≡ words product plant
 unfolding textWords textOf linesRead lineRead lineOf decimal
 whole = refl
+
+-- The line of an exclusive property, of Excl(0), which is a fact, and of Excl(1), which is none; a table with such a line.
+abbrev exclusiveLine : List ℕ → List ℕ
+exclusiveLine subject = subject ++ (bytes " " ++ (rdf "type>" ++ bytes " <urn:mark:excl> .\n"))
+
+abbrev readAs : List ℕ → List Line
+readAs l = lineRead (product .top) l
+
+exclusive-line : readAs (exclusiveLine (bytes "<urn:id:5>")) ≡ record { fact = excl 5; literal = false } ∷ []
+unfolding lineRead lineOf decimal
+exclusive-line = refl
+
+exclusive-resource : readAs (exclusiveLine (rdfs "Resource>")) ≡ record { fact = excl 0; literal = false } ∷ []
+unfolding lineRead lineOf decimal
+exclusive-resource = refl
+
+exclusive-mark : readAs (exclusiveLine (rdfs "Literal>")) ≡ []
+unfolding lineRead lineOf decimal
+exclusive-mark = refl
+
+abbrev poller : List Fact
+poller = cl 0 ∷ pr 5 ∷ dom 5 0 ∷ rng 5 0 ∷ excl 5 ∷ []
+
+poller-lengths : map (λ x. length (lineOf x)) (linesFor poller poller) ≡ 145 ∷ 117 ∷ 107 ∷ 106 ∷ 79 ∷ []
+unfolding lineOf decimal
+poller-lengths = refl
+
+poller-whole : textWords product (textOf poller) ≡ words product poller
+unfolding textWords textOf linesRead lineRead lineOf decimal
+poller-whole = refl

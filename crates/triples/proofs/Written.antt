@@ -102,6 +102,7 @@ module _ (K : List Fact) where
     d26 = λ x y z h k. stays (c .rule-26 x y z (back h) (back k)) (omega arith);
     d27 = λ x y z w h k. stays (c .rule-27 x y z w (back h) (back k)) (omega arith);
     dh3 = λ x y z h k. value-stays y (c .rule-h3 x y z (back h) (back k)) (is-value (pi x y z) (back k) refl);
+    de1 = λ x h. stays (c .rule-e1 x (back h)) (omega arith);
   }) (record {
     e12 = λ x y z h. ⊎-elim (λ i. inl (stays i (omega arith)))
         (λ l. inr (value-stays y l (is-value (pi x y z) (back h) refl))) (c .rule-12 x y z (back h) .2);

@@ -34,6 +34,10 @@ abbrev pub idOf : ℕ → List ℕ → ℕ
 idOf zero part = 0
 idOf (suc n) part = cond (names part (suc n)) (suc n) (idOf n part)
 
+-- The kinds of the facts that have a line.
+abbrev pub lineKinds : List ℕ
+lineKinds = 1 ∷ 2 ∷ 5 ∷ 6 ∷ 7 ∷ 8 ∷ 9 ∷ 10 ∷ 11 ∷ []
+
 -- Guesses at the line that some bytes are: of each kind, with the ids that the parts name. A guess counts
 -- only if its own bytes are these (`lineRead`), and no line is missed (`lineRead-of`). Of PI(a,b,c) the parts
 -- are a, c, b.
@@ -44,7 +48,7 @@ abbrev pub couldBe : ℕ → List ℕ → List Line
 couldBe top bytes =
     let parts : List (List ℕ) = cutAfter 32 bytes in
     concatMap (λ k. bothOf (made k (idOf top (getD parts 0 [])) (idOf top (getD parts 2 [])) (idOf top
-    (getD parts 1 [])))) (1 ∷ 2 ∷ 5 ∷ 6 ∷ 7 ∷ 8 ∷ 9 ∷ 10 ∷ [])
+    (getD parts 1 [])))) lineKinds
 
 -- The line inside the profile that some bytes are, if they are one.
 unfoldable pub lineRead : ℕ → List ℕ → List Line

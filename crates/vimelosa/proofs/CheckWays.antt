@@ -16,17 +16,18 @@ use Rattle.rdfs.specs.Refusals.{orElse, badSize, inconsistent}
 use Rattle.rdfs.proofs.words.Tables.{padded-length}
 use Rattle.table.specs.Counted.{factsOf}
 use Rattle.table.proofs.Zeros.{drop-zeros}
-use Rattle.contents.specs.ImageForm.{form}
-use Rattle.contents.specs.Reading.{wordsOf, malformed}
+use Rattle.contents.specs.ImageForm.{imageForm}
+use Rattle.contents.specs.Reading.{malformed}
 use Rattle.contents.specs.WithinBytes.{HasContents}
-use Rattle.contents.proofs.Product.{proper, legible, well-contents}
+use Rattle.contents.proofs.Product.{well-contents}
+use Rattle.contents.proofs.ImageForms.{image-legible}
 use Rattle.contents.proofs.RoundTrip.{read-well}
 use Rattle.consistency.specs.Order.{rulesInOrder, MetFirst}
-use Rattle.reading.specs.ReadPromise.{readAnswer, readWords}
+use Rattle.reading.specs.ReadPromise.{imageWords, readAnswer, readWords}
 use Rattle.reading.proofs.Held.{held-facts, held-laid}
 use Rattle.reading.proofs.ReadCall.{read-refused, read-judged}
 use Rattle.exchange.specs.ToText.{room}
-use Rattle.vimelosa.specs.Host.{packed}
+use Rattle.packing.specs.Packed.{packed}
 use Rattle.exchange.specs.PlaceTold.{none, broken}
 use Rattle.exchange.proofs.PlaceLaws.{third-breaks}
 use Rattle.vimelosa.specs.HostCheck.{HostCheckPromise}
@@ -38,15 +39,18 @@ way-other image n r e h p = record { place = 0; number = p ∙ ap (λ m. packed 
 
 module _ (image : List ℕ) (e : readAnswer room image ≡ 3) where
   abbrev words : List ℕ
-  words = wordsOf product form image
+  words = imageWords image
 
   -- What reading judged before 3.
-  judged : (badSize product room ≡ false) × (malformed product form image ≡ false) × (length words ≤ length room)
+  judged : (badSize product room ≡ false) × (malformed product (imageForm image) image ≡ false) × (length words ≤ length room)
       × (orElse (inconsistent product words) 3 0 ≡ 3)
   judged = read-judged room image 3 (omega arith) (omega arith) (sym e)
 
-  pub refused-contents : HasContents form image
-  refused-contents = record { form = legible; right = well-contents form proper image (judged .1) }
+  pub refused-contents : HasContents (imageForm image) image
+  refused-contents = record {
+    form = image-legible image;
+    right = well-contents (imageForm image) (image-legible image .proper) image (judged .1);
+  }
 
   pub refused-inconsistent : T (consistent? (facts product words)) → ⊥
   refused-inconsistent = third-breaks (consistent? (facts product words)) (judged .3)
@@ -68,7 +72,7 @@ module _ (image : List ℕ) (e : readAnswer room image ≡ 3) where
       pub stored-laid : T (laidOut product 1 after)
       stored-laid =
           subst T (sym (ap (laidOut product 1) held ∙ held-laid room image (judged .0) (judged .2)))
-          (read-well product form image (judged .1) .1)
+          (read-well product (imageForm image) image (judged .1) .1)
 
       pub stored-fits : length after ≤ product .most
       stored-fits = omega (arith, ap length held, padded-length (length room) words (judged .2))

@@ -6,11 +6,9 @@ use mathlib.Core.List.{List}
 use native.Mathlib.Omega.{arith}
 use Rattle.rdfs.specs.Numbers.{product}
 use Rattle.rdfs.specs.Words.{facts}
-use Rattle.contents.specs.ImageForm.{form}
-use Rattle.contents.specs.Reading.{wordsOf}
-use Rattle.reading.specs.ReadPromise.{readAnswer}
+use Rattle.reading.specs.ReadPromise.{imageWords, readAnswer}
 use Rattle.exchange.specs.ToText.{room}
-use Rattle.vimelosa.specs.Host.{packed, answerIn}
+use Rattle.packing.specs.Packed.{packed, answerIn}
 use Rattle.exchange.proofs.PlaceLaws.{NamesFirst, place-few, place-one, place-none, place-names}
 use Rattle.vimelosa.specs.HostCheck.{imageGraph, placeIn, HostCheckPromise}
 use Rattle.vimelosa.proofs.Saved.{read-small}
@@ -29,7 +27,7 @@ module _ (image : List ℕ) where
     pub check-names-the-first-broken : answerIn r ≡ 3 → NamesFirst (imageGraph image) (placeIn r)
     check-names-the-first-broken e =
         let third : readAnswer room image ≡ 3 = sym check-answers-reading ∙ e in
-        subst (NamesFirst (imageGraph image)) (sym told) (place-names (facts product (wordsOf product form image)) (p .rule) third
+        subst (NamesFirst (imageGraph image)) (sym told) (place-names (facts product (imageWords image)) (p .rule) third
         (refused-inconsistent image third))
 
     -- For any other answer it is 0.

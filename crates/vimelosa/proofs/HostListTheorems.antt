@@ -2,7 +2,7 @@
 -- single calls would do the same. All that is known of its number r, the answer bytes `told` and the output's bytes `left` is its
 -- contract, `HostListPromise`, and of the single calls theirs, `HostPromise`. Assumes nothing.
 use Prim.Native.Nat.{ℕ, _+_, _<_}
-use mathlib.Core.Path.{_≡_, refl, sym, ap, subst, _∙_}
+use mathlib.Core.Path.{_≡_, refl, sym, ap, _∙_}
 use mathlib.Core.Bool.{Bool, true, false, cond}
 use mathlib.Core.List.{List, map}
 use native.Mathlib.Omega.{arith}
@@ -18,8 +18,8 @@ use Rattle.reading.specs.ReadPromise.{readAnswer, readWords, ReadPromise}
 use Rattle.reading.proofs.ReadCall.{read-length}
 use Rattle.image.proofs.ImageTheorems.{read-writes}
 use Rattle.exchange.specs.ToText.{room}
-use Rattle.vimelosa.specs.Host.{sixteenBits, packed, answerIn, addedIn, removedIn, lengthIn, refusedElse}
-use Rattle.vimelosa.specs.HostList.{
+use Rattle.packing.specs.Packed.{sixteenBits, packed, answerIn, addedIn, removedIn, lengthIn, refusedElse}
+use Rattle.host_list.specs.HostList.{
   acceptedIn,
   refusedIn,
   ticketCount,
@@ -34,9 +34,9 @@ use Rattle.vimelosa.specs.HostList.{
   hostListOutput,
   HostListPromise,
 }
-use Rattle.vimelosa.specs.HostCalls.{HostCall, CalledEach, imageAfterAll}
+use Rattle.vimelosa.specs.HostCalls.{HostCall, CalledEach, AsSingleCalls}
 use Rattle.exchange.proofs.Between.{passed-leaves, read-table}
-use Rattle.vimelosa.proofs.HostListLaws.{ran-numbers, ran-length, ran-table, not-refused, was-read, has-answers}
+use Rattle.host_list.proofs.HostListLaws.{ran-numbers, ran-length, ran-table, not-refused, was-read, has-answers}
 use Rattle.vimelosa.proofs.Saved.{
   else-small,
   read-small,
@@ -180,18 +180,21 @@ module _ (image tickets answers output : List ℕ) where
           all = omega (arith, yes, no, numbers-all);
         }
 
-    -- An accepted list call does as single calls, one for each ticket: the same numbers, and the same image at the end.
+    -- An accepted list call does as single calls, one for each ticket: the same numbers, and an image at the end that is read as
+    -- the same words; it is the same image unless the image given has ten entries.
     pub list-as-single-calls : answerIn r ≡ 0 → (calls : List HostCall) → CalledEach image (cut recordLength tickets) calls
-        → (map (λ c. answerIn (c .number)) calls ≡ take (ticketCount tickets) told)
-        × (imageAfterAll image calls ≡ take (lengthIn r) left)
+        → AsSingleCalls image tickets r told left calls
     unfolding ran
     list-as-single-calls e calls h =
         let w : List ℕ = readWords room image in
         let read = was-accepted e .read in
-        let own : image ≡ tableImage w = read-writes room image (sym read) .0 in
-        let ran-calls = calls-run (cut recordLength tickets) calls w (read-table image 0 (sym read) refl refl)
-        (read-length room image) (subst (λ i. CalledEach i (cut recordLength tickets) calls) own h) in
-        let same = register-runs w tickets in (
-          ran-calls .0 ∙ sym (list-answers-each e .numbers ∙ ap (λ d. d .numbers) same),
-          ap (λ i. imageAfterAll i calls) own ∙ (ran-calls .1 ∙ sym (list-image e ∙ ap (λ d. tableImage (d .table)) same)),
-        )
+        let singles = calls-run (cut recordLength tickets) calls w (read-table image 0 (sym read) refl refl)
+        (read-length room image) image (record { read = read; words = refl }) h in
+        let same = register-runs w tickets in
+        record {
+          numbers = singles .numbers ∙ sym (list-answers-each e .numbers ∙ ap (λ d. d .numbers) same);
+          last-read = singles .last-gives .read;
+          last-words = singles .last-gives .words ∙ sym (ap (λ d. d .table) same);
+          last-image = λ n. singles .last-image (read-writes room image (sym read) n .0)
+              ∙ sym (list-image e ∙ ap (λ d. tableImage (d .table)) same);
+        }

@@ -15,35 +15,42 @@ use Rattle.writing.proofs.Measuring.{image-small}
 use Rattle.writing.proofs.WriteCall.{table-writing, write-done}
 use Rattle.reading.specs.ReadPromise.{readAnswer, readWords}
 use Rattle.exchange.specs.ToText.{room}
-use Rattle.vimelosa.specs.Host.{packed, answerIn, lengthIn, refusedElse, applied, hostAnswer}
+use Rattle.packing.specs.Packed.{packed, answerIn, lengthIn, refusedElse}
+use Rattle.vimelosa.specs.Host.{applied, hostAnswer}
 use Rattle.vimelosa.specs.HostCalls.{HostCall, Called, imageAfter, CalledEach, imageAfterAll}
 use Rattle.exchange.proofs.Between.{refused-keeps, passed-leaves}
-use Rattle.vimelosa.proofs.HostWays.{refused-is, passed-is, applied-table}
+use Rattle.host_list.proofs.Refused.{refused-is, passed-is}
+use Rattle.vimelosa.proofs.HostWays.{applied-table}
 use Rattle.vimelosa.proofs.Saved.{packed-answer, reads-back, number-small, accepted, saved-image}
 
--- One call on the image of a consistent table of 2,048 words.
-module _ (w : List ℕ) (table : Table product w) (long : length w ≡ product .most) (ticket : List ℕ) (call : HostCall)
-    (called : Called (tableImage w) ticket call) where
-  abbrev image : List ℕ
-  image = tableImage w
+-- An image is read as the words w.
+pub record Gives (image w : List ℕ) : Type 0 where
+  pub read : readAnswer room image ≡ 0
+  pub words : readWords room image ≡ w
 
+pub image-gives : (w : List ℕ) → Table product w → length w ≡ product .most → Gives (tableImage w) w
+image-gives w table long =
+    let image : List ℕ = tableImage w in
+    let back = reads-back table long room refl refl (readAnswer room image) (readWords room image) (refl, refl) in
+    record { read = back .0; words = back .1 }
+
+-- One call on an image that is read as a consistent table of 2,048 words.
+module _ (w : List ℕ) (table : Table product w) (long : length w ≡ product .most) (image : List ℕ) (gives : Gives image w)
+    (ticket : List ℕ) (call : HostCall) (called : Called image ticket call) where
   abbrev s : Answer
   s = applied image ticket
 
   abbrev output : List ℕ
   output = call .output
 
-  was-read : (readAnswer room image ≡ 0) × (readWords room image ≡ w)
-  was-read = reads-back table long room refl refl (readAnswer room image) (readWords room image) (refl, refl)
-
   as-step : s ≡ step product w ticket
   unfolding applied
-  as-step = ap (λ v. step product v ticket) (was-read .1)
+  as-step = ap (λ v. step product v ticket) (gives .words)
 
   -- Its answer is the ticket's number, since writing is not refused.
   written : writeAnswer (s .table) output ≡ 0
   written =
-      let t : Table product (s .table) = applied-table image ticket (was-read .0) in
+      let t : Table product (s .table) = applied-table image ticket (gives .read) in
       let fits : length (tableImage (s .table)) ≤ length output =
       omega (arith, called .has-room, image-small (s .table) _ (table-writing t _ refl .writable)) in
       sym (write-done (s .table) output t fits _ refl _ refl .0)
@@ -54,7 +61,7 @@ module _ (w : List ℕ) (table : Table product w) (long : length w ≡ product .
       let counts : ℕ = packed 0 (s .added) (s .removed) (writeLength (s .table) output) in
       let later : ℕ = refusedElse (writeAnswer (s .table) output) counts in
       let read : hostAnswer image ticket output ≡ refusedElse (s .number) later =
-      passed-is (readAnswer room image) (refusedElse (s .number) later) (was-read .0) in
+      passed-is (readAnswer room image) (refusedElse (s .number) later) (gives .read) in
       elim (ℕ-discrete (s .number) 0) [
         | yes z ↦
             let done : hostAnswer image ticket output ≡ counts =
@@ -67,36 +74,57 @@ module _ (w : List ℕ) (table : Table product w) (long : length w ≡ product .
   pub call-answer : answerIn (call .number) ≡ step product w ticket .number
   call-answer = ap answerIn (called .promise .0) ∙ (answers ∙ ap (λ a. a .number) as-step)
 
-  -- The image for the next call is that of the words that the ticket leaves.
-  pub call-image : imageAfter image call ≡ tableImage (step product w ticket .table)
-  call-image =
-      let number : ℕ = answerIn (call .number) in
-      let new : List ℕ = take (lengthIn (call .number)) (call .left) in
-      elim (ℕ-discrete number 0) [
-        | yes z ↦
-            let a = accepted image ticket output (ap answerIn (sym (called .promise .0)) ∙ z) in
-            passed-leaves number new image z
-            ∙ (ap (λ m. take (lengthIn m) (call .left)) (called .promise .0)
-            ∙ (ap (take (lengthIn (hostAnswer image ticket output))) (called .promise .1)
-            ∙ (saved-image image ticket output a ∙ ap (λ x. tableImage (x .table)) as-step)))
-        | no h ↦ refused-keeps number new image h
-            ∙ sym (ap tableImage (after product product-sound w ticket table .refused (λ e. h (call-answer ∙ e)) .0))
+  -- Accepted, the image for the next call is that of the words that the ticket leaves; refused, it is the same, and so are they.
+  call-accepted : answerIn (call .number) ≡ 0 → imageAfter image call ≡ tableImage (step product w ticket .table)
+  call-accepted z =
+      let a = accepted image ticket output (ap answerIn (sym (called .promise .0)) ∙ z) in
+      passed-leaves (answerIn (call .number)) (take (lengthIn (call .number)) (call .left)) image z
+      ∙ (ap (λ m. take (lengthIn m) (call .left)) (called .promise .0)
+      ∙ (ap (take (lengthIn (hostAnswer image ticket output))) (called .promise .1)
+      ∙ (saved-image image ticket output a ∙ ap (λ x. tableImage (x .table)) as-step)))
+
+  call-refused : (answerIn (call .number) ≡ 0 → ⊥) → (imageAfter image call ≡ image) × (step product w ticket .table ≡ w)
+  call-refused h = (
+    refused-keeps (answerIn (call .number)) (take (lengthIn (call .number)) (call .left)) image h,
+    after product product-sound w ticket table .refused (λ e. h (call-answer ∙ e)) .0,
+  )
+
+  pub call-gives : Gives (imageAfter image call) (step product w ticket .table)
+  call-gives =
+      let v : List ℕ = step product w ticket .table in
+      elim (ℕ-discrete (answerIn (call .number)) 0) [
+        | yes z ↦ subst (λ i. Gives i v) (sym (call-accepted z)) (image-gives v (after product product-sound w ticket table
+            .rules)
+            (step-length product w ticket ∙ long))
+        | no h ↦ let kept = call-refused h in
+            subst (λ i. Gives i v) (sym (kept .0)) (subst (Gives image) (sym (kept .1)) gives)
       ]
 
--- All calls.
+  pub call-image : image ≡ tableImage w → imageAfter image call ≡ tableImage (step product w ticket .table)
+  call-image own = elim (ℕ-discrete (answerIn (call .number)) 0) [
+    | yes z ↦ call-accepted z
+    | no h ↦ let kept = call-refused h in kept .0 ∙ (own ∙ ap tableImage (sym (kept .1)))
+  ]
+
+-- All calls: their answers are the register's numbers, the last image is read as its words, and it is their image if the first is
+-- that of the words before.
+pub record CallsRun (image w : List ℕ) (l : List (List ℕ)) (calls : List HostCall) : Type 0 where
+  pub numbers : map (λ c. answerIn (c .number)) calls ≡ runWith (step product) w l .numbers
+  pub last-gives : Gives (imageAfterAll image calls) (runWith (step product) w l .table)
+  pub last-image : image ≡ tableImage w → imageAfterAll image calls ≡ tableImage (runWith (step product) w l .table)
+
 pub calls-run : (l : List (List ℕ)) (calls : List HostCall) (w : List ℕ) → Table product w → length w ≡ product .most
-    → CalledEach (tableImage w) l calls
-    → (map (λ c. answerIn (c .number)) calls ≡ runWith (step product) w l .numbers)
-    × (imageAfterAll (tableImage w) calls ≡ tableImage (runWith (step product) w l .table))
+    → (image : List ℕ) → Gives image w → CalledEach image l calls → CallsRun image w l calls
 unfolding runWith
-calls-run [] [] w t long h = (refl, refl)
-calls-run [] (c ∷ cs) w t long h = absurd h
-calls-run (b ∷ l) [] w t long h = absurd h
-calls-run (b ∷ l) (c ∷ cs) w t long h =
-    let v : List ℕ = step product w b .table in
-    let next : imageAfter (tableImage w) c ≡ tableImage v = call-image w t long b c (h .0) in
-    let rest = calls-run l cs v (after product product-sound w b t .rules) (step-length product w b ∙ long)
-    (subst (λ i. CalledEach i l cs) next (h .1)) in (
-      (λ i. call-answer w t long b c (h .0) i ∷ rest .0 i),
-      ap (λ i. imageAfterAll i cs) next ∙ rest .1,
-    )
+calls-run [] [] w t long image g h = record { numbers = refl; last-gives = g; last-image = λ own. own }
+calls-run [] (c ∷ cs) w t long image g h = absurd h
+calls-run (b ∷ l) [] w t long image g h = absurd h
+calls-run (b ∷ l) (c ∷ cs) w t long image g h =
+    let rest = calls-run l cs (step product w b .table) (after product product-sound w b t .rules) (step-length product w b
+    ∙ long)
+    (imageAfter image c) (call-gives w t long image g b c (h .0)) (h .1) in
+    record {
+      numbers = λ i. call-answer w t long image g b c (h .0) i ∷ rest .numbers i;
+      last-gives = rest .last-gives;
+      last-image = λ own. rest .last-image (call-image w t long image g b c (h .0) own);
+    }

@@ -8,18 +8,17 @@ use lib.ListN.{length, take}
 use Rattle.rdfs.specs.Numbers.{product}
 use Rattle.rdfs.specs.Refusals.{orElse, inconsistent}
 use Rattle.rdfs.proofs.tickets.Steps.{table-passes}
-use Rattle.contents.specs.ImageForm.{form}
-use Rattle.contents.specs.Reading.{wordsOf}
 use Rattle.writing.specs.WritePromise.{tableImage, writeAnswer}
-use Rattle.reading.specs.ReadPromise.{imageRefusal, readAnswer, ReadPromise}
+use Rattle.reading.specs.ReadPromise.{imageWords, imageRefusal, readAnswer, ReadPromise}
 use Rattle.exchange.specs.ToText.{room}
-use Rattle.vimelosa.specs.Host.{answerIn, addedIn, removedIn, lengthIn, applied, hostAnswer, HostPromise}
+use Rattle.packing.specs.Packed.{answerIn, addedIn, removedIn, lengthIn}
+use Rattle.vimelosa.specs.Host.{applied, hostAnswer, HostPromise}
 use Rattle.vimelosa.proofs.HostWays.{applied-table}
 use Rattle.vimelosa.proofs.Saved.{reads-back, accepted, left-length, saved-image, refused}
 
 -- Reading: 12, 11 or 3. Refusal 1 cannot come, for the room is the call's own.
 pub read-refusals : (image : List ℕ) → readAnswer room image ≡ imageRefusal image (product .most)
-    (orElse (inconsistent product (wordsOf product form image)) 3 0)
+    (orElse (inconsistent product (imageWords image)) 3 0)
 read-refusals image = refl
 
 -- Writing: 13 only, exactly if the output is shorter than the image of what the ticket left.

@@ -23,9 +23,10 @@ use Rattle.exchange.proofs.Between.{refused-keeps, passed-leaves}
 use Rattle.exchange.proofs.BrokenLaws.{broken-inconsistent}
 use Rattle.exchange.proofs.PlaceLaws.{NamesFirst, place-few, place-one, place-none, place-names}
 use Rattle.exchange.proofs.ExchangeTheorems.{third-from-reading, to-text-refusal-keeps, to-image-refusal-keeps}
-use Rattle.vimelosa.specs.Host.{sixteenBits, packed, answerIn, lengthIn}
+use Rattle.packing.specs.Packed.{sixteenBits, packed, answerIn, lengthIn}
 use Rattle.vimelosa.specs.HostCheck.{placeIn}
-use Rattle.vimelosa.specs.HostTriples.{textLengthIn, HostWriteTriplesPromise, HostReadTriplesPromise}
+use Rattle.packing.specs.Packed.{textLengthIn}
+use Rattle.vimelosa.specs.HostTriples.{HostWriteTriplesPromise, HostReadTriplesPromise}
 use Rattle.vimelosa.proofs.Saved.{else-small, read-small, table-small}
 
 -- Of two answers in turn.

@@ -6,8 +6,9 @@ use Rattle.triples.specs.declared.Text.{Text}
 use Rattle.exchange.specs.ToText.{toTextAnswer, ToTextPromise}
 use Rattle.exchange.specs.ToImage.{toImageAnswer, ToImagePromise}
 use Rattle.exchange.specs.declared.Imaged.{Imaged}
-use Rattle.vimelosa.specs.Host.{packed}
-use Rattle.vimelosa.specs.HostTriples.{packedText, HostWriteTriplesPromise, HostReadTriplesPromise}
+use Rattle.packing.specs.Packed.{packed}
+use Rattle.packing.specs.Packed.{packedText}
+use Rattle.vimelosa.specs.HostTriples.{HostWriteTriplesPromise, HostReadTriplesPromise}
 
 pub way-text : (image output : List ℕ) (text : Text) (left : List ℕ) → ToTextPromise image output text left → (r : ℕ)
     → r ≡ packedText (text .answer) (text .length) → HostWriteTriplesPromise image output r left

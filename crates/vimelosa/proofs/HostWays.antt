@@ -14,14 +14,9 @@ use Rattle.ticket.specs.Answered.{Answered}
 use Rattle.ticket.specs.declared.answer.Applied.{Applied}
 use Rattle.exchange.specs.ToText.{room}
 use Rattle.exchange.proofs.Between.{refused-keeps, passed-leaves, read-table}
-use Rattle.vimelosa.specs.Host.{packed, refusedElse, applied, hostAnswer, hostOutput, HostPromise}
-
--- A refusal is the answer, and for 0 what comes after.
-pub refused-is : (n rest : ℕ) → (n ≡ 0 → ⊥) → refusedElse n rest ≡ packed n 0 0 0
-refused-is n rest = refused-keeps n rest (packed n 0 0 0)
-
-pub passed-is : (n rest : ℕ) → n ≡ 0 → refusedElse n rest ≡ rest
-passed-is n rest = passed-leaves n rest (packed n 0 0 0)
+use Rattle.host_list.proofs.Refused.{refused-is, passed-is}
+use Rattle.packing.specs.Packed.{packed, refusedElse}
+use Rattle.vimelosa.specs.Host.{applied, hostAnswer, hostOutput, HostPromise}
 
 -- Words that a ticket leaves are a consistent table, as those that were read are.
 pub applied-table : (image ticket : List ℕ) → readAnswer room image ≡ 0 → Table product (applied image ticket .table)

@@ -18,18 +18,19 @@ use Rattle.rdfs.proofs.lists.Tests.{and-both}
 use Rattle.rdfs.proofs.tickets.TicketRefusals.{new, tests, passed}
 use Rattle.rdfs.proofs.tickets.Steps.{table-passes, step-number, accepted-leaves, room-fits, step-length}
 use Rattle.table.proofs.Filled.{filled-within}
-use Rattle.contents.specs.ImageForm.{form}
-use Rattle.contents.specs.Reading.{wordsOf, malformed}
+use Rattle.contents.specs.ImageForm.{imageForm}
+use Rattle.contents.specs.Reading.{malformed}
 use Rattle.writing.specs.WritePromise.{tableImage, writeAnswer, writeLength, writeBytes}
 use Rattle.writing.proofs.WriteCall.{write-taken}
-use Rattle.reading.specs.ReadPromise.{readAnswer, readWords, ReadPromise}
+use Rattle.reading.specs.ReadPromise.{imageWords, readAnswer, readWords, ReadPromise}
 use Rattle.reading.proofs.ReadCall.{read-length}
 use Rattle.image.proofs.ImageTheorems.{image-reads-back, table-reads-back}
-use Rattle.vimelosa.specs.Host.{sixteenBits, packed, answerIn, addedIn, removedIn, lengthIn}
+use Rattle.packing.specs.Packed.{sixteenBits, packed, answerIn, addedIn, removedIn, lengthIn}
 use Rattle.exchange.specs.ToText.{room}
-use Rattle.vimelosa.specs.Host.{refusedElse, applied, hostAnswer, hostOutput}
+use Rattle.packing.specs.Packed.{refusedElse}
+use Rattle.vimelosa.specs.Host.{applied, hostAnswer, hostOutput}
 use Rattle.exchange.proofs.Between.{passed-leaves, read-table}
-use Rattle.vimelosa.proofs.HostWays.{refused-is, passed-is}
+use Rattle.host_list.proofs.Refused.{refused-is, passed-is}
 
 -- A refusal fits its field.
 pub else-small : (b : Bool) (n rest : ℕ) → n < sixteenBits → rest < sixteenBits → orElse b n rest < sixteenBits
@@ -47,8 +48,9 @@ first-small (r ∷ l) rest s h =
 -- So does a refusal of reading.
 pub read-small : (image : List ℕ) → readAnswer room image < sixteenBits
 read-small image =
-    let l : List ℕ = wordsOf product form image in
-    else-small (malformed product form image) 12 _ (lit< tt) (else-small (ltb (product .most) (length l)) 11 _ (lit< tt)
+    let l : List ℕ = imageWords image in
+    else-small (malformed product (imageForm image) image) 12 _ (lit< tt) (else-small (ltb (product .most) (length l)) 11 _
+    (lit< tt)
     (else-small (inconsistent product l) 3 0 (lit< tt) (lit< tt)))
 
 -- So does a refusal of a table, if what comes after has.

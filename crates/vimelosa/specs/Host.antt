@@ -1,5 +1,5 @@
 -- What the host's call answers and what it leaves in the output, for all bytes: reading, a ticket, writing.
-use Prim.Native.Nat.{ℕ, _+_, _*_, _/_, _%_}
+use Prim.Native.Nat.{ℕ}
 use mathlib.Core.Path.{_≡_}
 use mathlib.Core.Bool.{cond}
 use mathlib.Core.List.{List}
@@ -9,32 +9,7 @@ use Rattle.rdfs.specs.Register.{Answer, step}
 use Rattle.writing.specs.WritePromise.{writeAnswer, writeLength, writeBytes}
 use Rattle.reading.specs.ReadPromise.{readAnswer, readWords}
 use Rattle.exchange.specs.ToText.{room}
-
--- The values of a number of 16 bits.
-abbrev pub sixteenBits : ℕ
-sixteenBits = 65536
-
--- Four numbers of 16 bits each, lowest first.
-abbrev pub packed : ℕ → ℕ → ℕ → ℕ → ℕ
-packed answer added removed length =
-    answer + sixteenBits * (added + sixteenBits * (removed + sixteenBits * length))
-
--- The answer, the facts added, the facts removed and the image's length in such a number.
-abbrev pub answerIn : ℕ → ℕ
-answerIn number = number % sixteenBits
-
-abbrev pub addedIn : ℕ → ℕ
-addedIn number = number / sixteenBits % sixteenBits
-
-abbrev pub removedIn : ℕ → ℕ
-removedIn number = number / sixteenBits / sixteenBits % sixteenBits
-
-abbrev pub lengthIn : ℕ → ℕ
-lengthIn number = number / sixteenBits / sixteenBits / sixteenBits
-
--- A refusal with the other three 0; for 0, what comes after.
-abbrev pub refusedElse : ℕ → ℕ → ℕ
-refusedElse refusal rest = cond (eqb refusal 0) rest (packed refusal 0 0 0)
+use Rattle.packing.specs.Packed.{packed, refusedElse}
 
 -- The ticket on the words that were read.
 unfoldable pub applied : List ℕ → List ℕ → Answer

@@ -1,12 +1,17 @@
 -- Single host calls one after another, one for each ticket, each on the image that those before left.
 use Prim.Native.Nat.{ℕ, _+_, _*_, _≤_}
+use mathlib.Core.Path.{_≡_}
 use mathlib.Core.Bool.{cond}
-use mathlib.Core.List.{List, [], _∷_}
+use mathlib.Core.List.{List, [], _∷_, map}
 use lib.Dec.{eqb}
 use lib.ListN.{length, take}
 use Rattle.rdfs.specs.Numbers.{product}
-use Rattle.contents.specs.ImageForm.{form, largestFact, firstBody}
-use Rattle.vimelosa.specs.Host.{answerIn, lengthIn, HostPromise}
+use Rattle.contents.specs.ImageForm.{form, TenEntries, largestFact, firstBody}
+use Rattle.reading.specs.ReadPromise.{readAnswer, readWords}
+use Rattle.exchange.specs.ToText.{room}
+use Rattle.packing.specs.Packed.{answerIn, lengthIn}
+use Rattle.host_list.specs.HostList.{ticketCount, ran}
+use Rattle.vimelosa.specs.Host.{HostPromise}
 
 -- A call: the output that it is lent, the number that it answers, the bytes that it leaves in the output.
 pub record HostCall : Type 0 where
@@ -36,3 +41,12 @@ CalledEach image (ticket ∷ tickets) (call ∷ calls) =
 abbrev pub imageAfterAll : List ℕ → List HostCall → List ℕ
 imageAfterAll image [] = image
 imageAfterAll image (call ∷ calls) = imageAfterAll (imageAfter image call) calls
+
+-- Such calls have answered the numbers told; the last image is read as the words that the register leaves,
+-- and it is the image put out unless the first has ten entries.
+pub record AsSingleCalls (image tickets : List ℕ) (number : ℕ) (told left : List ℕ) (calls : List HostCall)
+    : Type 0 where
+  pub numbers : map (λ call. answerIn (call .number)) calls ≡ take (ticketCount tickets) told
+  pub last-read : readAnswer room (imageAfterAll image calls) ≡ 0
+  pub last-words : readWords room (imageAfterAll image calls) ≡ ran image tickets .table
+  pub last-image : (TenEntries image → ⊥) → imageAfterAll image calls ≡ take (lengthIn number) left

@@ -5,16 +5,14 @@ use mathlib.Core.List.{List}
 use Rattle.rdfs.specs.Numbers.{product}
 use Rattle.rdfs.specs.Facts.{Graph, graph}
 use Rattle.rdfs.specs.Words.{facts}
-use Rattle.contents.specs.ImageForm.{form}
-use Rattle.contents.specs.Reading.{wordsOf}
-use Rattle.reading.specs.ReadPromise.{readAnswer}
+use Rattle.reading.specs.ReadPromise.{imageWords, readAnswer}
 use Rattle.exchange.specs.ToText.{room}
 use Rattle.exchange.specs.PlaceTold.{PlaceTold}
-use Rattle.vimelosa.specs.Host.{packed, addedIn}
+use Rattle.packing.specs.Packed.{packed, addedIn}
 
 -- The graph of the facts that an image holds.
 abbrev pub imageGraph : List ℕ → Graph
-imageGraph image = graph (facts product (wordsOf product form image))
+imageGraph image = graph (facts product (imageWords image))
 
 -- The place in the call's number: its second 16 bits.
 abbrev pub placeIn : ℕ → ℕ

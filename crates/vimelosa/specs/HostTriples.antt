@@ -1,19 +1,12 @@
 -- What the host's calls on texts answer and leave in the output, for all bytes.
-use Prim.Native.Nat.{ℕ, _+_, _*_, _/_}
+use Prim.Native.Nat.{ℕ}
 use mathlib.Core.Path.{_≡_}
 use mathlib.Core.List.{List}
 use Rattle.exchange.specs.ToText.{room, toTextAnswer, toTextLength, toTextBytes}
 use Rattle.triples.specs.ReadTriples.{readTriplesAnswer}
 use Rattle.exchange.specs.PlaceTold.{PlaceTold}
 use Rattle.exchange.specs.ToImage.{textGraph, toImageAnswer, toImageLength, toImageBytes}
-use Rattle.vimelosa.specs.Host.{sixteenBits, packed}
-
--- An answer of 16 bits, and a text's length in the bits above; the length in such a number.
-abbrev pub packedText : ℕ → ℕ → ℕ
-packedText answer length = answer + sixteenBits * length
-
-abbrev pub textLengthIn : ℕ → ℕ
-textLengthIn number = number / sixteenBits
+use Rattle.packing.specs.Packed.{packed, packedText}
 
 -- The promise of turning an image into a text, for all bytes of both: the number, and the bytes left.
 pub record HostWriteTriplesPromise (image output : List ℕ) (number : ℕ) (left : List ℕ) : Type 0 where

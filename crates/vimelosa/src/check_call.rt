@@ -1,8 +1,8 @@
 // What is wrong with an image.
 ghost use Rattle.vimelosa.specs.HostCheck.{HostCheckPromise};
-use crate::number::pack;
 use consistency::count_met;
 use image::read;
+use packing::pack;
 use reading::store_words;
 use table::INCONSISTENT;
 use table::MOST;

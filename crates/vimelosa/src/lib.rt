@@ -11,7 +11,6 @@
 // before the other is there.
 mod check_call;
 mod list_call;
-mod number;
 mod triples_call;
 
 pub use check_call::vimelosa_check;
@@ -21,7 +20,7 @@ pub use triples_call::vimelosa_write_triples;
 ghost use Rattle.vimelosa.specs.Host.{HostPromise};
 use image::read;
 use image::write_checked;
-use number::pack;
+use packing::pack;
 use table::MOST;
 use table::Word;
 use ticket::apply_checked;

@@ -1,9 +1,9 @@
 // An image turned into the text of its graph, and a text into the image of its graph.
 ghost use Rattle.vimelosa.specs.HostTriples.{HostWriteTriplesPromise, HostReadTriplesPromise};
-use crate::number::pack;
-use crate::number::pack_text;
 use exchange::to_image;
 use exchange::to_text;
+use packing::pack;
+use packing::pack_text;
 
 // Reads the image into 2,048 words and writes their text. Answers 0 or the refusal, and above it the text's
 // length. Refused with 12, 11, 3 or 13, the length is 0 and the output is as it was.

@@ -1,2 +1,3 @@
--- WorkedCases: the examples, one list.
+-- WorkedCases: the examples, one list. ExclusiveCases: those of exclusive properties.
 pub mod WorkedCases
+pub mod ExclusiveCases

@@ -4,16 +4,31 @@ use mathlib.Core.Path.{_≡_, ap}
 use mathlib.Core.List.{List}
 use Prim.Native.Nat.{ℕ, _+_, _*_, _-_}
 use lib.ListN.{length, take, drop}
-use Rattle.contents.specs.ImageForm.{form}
+use Rattle.contents.specs.ImageForm.{Form}
+use Rattle.contents.specs.Legible.{formOf}
 use Rattle.contents.proofs.FormBounds.{body-small}
-use Rattle.contents.proofs.HasBody.{there, there-entry, there-size, there-within, gone, part-none, part-some}
-use Rattle.contents.proofs.Product.{proper, legible}
+use Rattle.contents.proofs.HasBody.{
+  there,
+  there-entry,
+  there-size,
+  there-within,
+  gone,
+  part-none,
+  part-some,
+  in-image-form,
+}
+use Rattle.contents.proofs.ImageForms.{legible-given}
 use borrow.Author.Needs.{needs}
 use Rattle.contents.proofs.body.Statement.{statement}
 use Rattle.contents.proofs.body.Tie as tie
 
+form-of-requires : tie.Need-form-of-requires
+form-of-requires c κs = search needs
+
 has-body-requires : tie.Need-has-body-requires
-has-body-requires c κs = legible
+has-body-requires c κs =
+    let s = c .before .before in
+    legible-given (s .args .image .now) _ (c .form-of .ensures)
 
 sub-result : tie.Need-sub-result
 sub-result c = search needs
@@ -27,48 +42,64 @@ part-result-end c = search needs
 returns : tie.Need-returns
 returns c =
     let at-has-body = c .before .before in
-    let s = at-has-body .before .before in
+    let at-form-of = at-has-body .before in
+    let s = at-form-of .before .before in
     let bytes : List ℕ = s .args .image .now in
+    let k : ℕ = s .args .kind in
+    let F : Form = formOf (at-form-of .form-of .result) in
     let none : length bytes - length bytes ≡ 0 = omega arith in
-    part-none form bytes (s .args .kind) _ _ (gone form bytes (s .args .kind) (at-has-body .has-body .result)
-    (at-has-body .has-body .ensures) (c .before .if1 .taken))
-    record { block = search needs; offset = search needs; bytes = ap (λ n. take n (drop (length bytes) bytes)) none }
+    in-image-form F bytes k _ _ (at-form-of .form-of .ensures)
+    (part-none F bytes k _ _ (gone F bytes k (at-has-body .has-body .result) (at-has-body .has-body .ensures)
+    (c .before .if1 .taken))
+    record { block = search needs; offset = search needs; bytes = ap (λ n. take n (drop (length bytes) bytes)) none })
 
 start-at-requires : tie.Need-start-at-requires
 start-at-requires c κs =
-    let s = c .before .before .before in
-    there-entry form (s .args .image .now) (s .args .kind) legible (there form (s .args .image .now) (s .args .kind) proper
+    let at-form-of = c .before .before in
+    let s = at-form-of .before .before in
+    let bytes : List ℕ = s .args .image .now in
+    there-entry _ bytes (s .args .kind) (there _ bytes (s .args .kind) (at-form-of .form-of .ensures)
     (c .before .has-body .result) (c .before .has-body .ensures) (c .if1 .left))
 
 fact-size-requires : tie.Need-fact-size-requires
-fact-size-requires c κs = legible
+fact-size-requires c κs =
+    let at-form-of = c .before .before .before in
+    let s = at-form-of .before .before in
+    legible-given (s .args .image .now) _ (at-form-of .form-of .ensures)
 
 count-at-requires : tie.Need-count-at-requires
 count-at-requires c κs =
     let at-if1 = c .before .before in
     let at-has-body = at-if1 .before in
-    let s = at-has-body .before .before in
-    there-entry form (s .args .image .now) (s .args .kind) legible (there form (s .args .image .now) (s .args .kind) proper
+    let at-form-of = at-has-body .before in
+    let s = at-form-of .before .before in
+    let bytes : List ℕ = s .args .image .now in
+    there-entry _ bytes (s .args .kind) (there _ bytes (s .args .kind) (at-form-of .form-of .ensures)
     (at-has-body .has-body .result) (at-has-body .has-body .ensures) (at-if1 .if1 .left))
 
 mul-to : tie.Need-mul-to
-mul-to c = omega (
-  arith,
-  body-small legible (c .before .fact-size .result) (c .count-at .result)
-      (c .before .fact-size .ensures .1) (c .count-at .ensures .1),
-)
+mul-to c =
+    let at-form-of = c .before .before .before .before .before in
+    let s = at-form-of .before .before in
+    omega (
+      arith,
+      body-small (legible-given (s .args .image .now) _ (at-form-of .form-of .ensures)) (c .before .fact-size .result)
+          (c .count-at .result) (c .before .fact-size .ensures .1) (c .count-at .ensures .1),
+    )
 
 add-to : tie.Need-add-to
 add-to c =
     let at-start-at = c .before .before in
     let at-if1 = at-start-at .before in
     let at-has-body = at-if1 .before in
-    let s = at-has-body .before .before in
-    let here = there form (s .args .image .now) (s .args .kind) proper (at-has-body .has-body .result)
+    let at-form-of = at-has-body .before in
+    let s = at-form-of .before .before in
+    let bytes : List ℕ = s .args .image .now in
+    let here = there _ bytes (s .args .kind) (at-form-of .form-of .ensures) (at-has-body .has-body .result)
     (at-has-body .has-body .ensures) (at-if1 .if1 .left) in
     omega (
       arith,
-      there-within form (s .args .image .now) (s .args .kind) here _ _ _ (at-start-at .start-at .ensures)
+      there-within _ bytes (s .args .kind) here _ _ _ (at-start-at .start-at .ensures)
           (c .before .fact-size .ensures .0) (c .count-at .ensures .0),
     )
 
@@ -83,10 +114,12 @@ part-result-end-2 c =
     let at-start-at = c .before .before in
     let at-if1 = at-start-at .before in
     let at-has-body = at-if1 .before in
-    let s = at-has-body .before .before in
-    let here = there form (s .args .image .now) (s .args .kind) proper (at-has-body .has-body .result)
+    let at-form-of = at-has-body .before in
+    let s = at-form-of .before .before in
+    let bytes : List ℕ = s .args .image .now in
+    let here = there _ bytes (s .args .kind) (at-form-of .form-of .ensures) (at-has-body .has-body .result)
     (at-has-body .has-body .ensures) (at-if1 .if1 .left) in
-    let inside = there-within form (s .args .image .now) (s .args .kind) here _ _ _ (at-start-at .start-at .ensures)
+    let inside = there-within _ bytes (s .args .kind) here _ _ _ (at-start-at .start-at .ensures)
     (c .before .fact-size .ensures .0) (c .count-at .ensures .0) in
     search needs
 
@@ -96,21 +129,26 @@ returns-2 c =
     let at-start-at = at-fact-size .before in
     let at-if1 = at-start-at .before in
     let at-has-body = at-if1 .before in
-    let s = at-has-body .before .before in
+    let at-form-of = at-has-body .before in
+    let s = at-form-of .before .before in
     let bytes : List ℕ = s .args .image .now in
-    let here = there form bytes (s .args .kind) proper (at-has-body .has-body .result) (at-has-body .has-body .ensures)
-    (at-if1 .if1 .left) in
+    let k : ℕ = s .args .kind in
+    let F : Form = formOf (at-form-of .form-of .result) in
+    let here = there F bytes k (at-form-of .form-of .ensures) (at-has-body .has-body .result)
+    (at-has-body .has-body .ensures) (at-if1 .if1 .left) in
     let from : ℕ = at-start-at .start-at .result in
     let size : ℕ = at-fact-size .fact-size .result * c .before .count-at .result in
     let same : from + size - from ≡ size = omega arith in
-    part-some form bytes (s .args .kind) _ _ (here .here) from size (at-start-at .start-at .ensures)
-    (there-size form bytes (s .args .kind) _ _ (at-fact-size .fact-size .ensures .0) (c .before .count-at .ensures .0))
-    record { block = search needs; offset = search needs; bytes = ap (λ n. take n (drop from bytes)) same }
+    in-image-form F bytes k _ _ (at-form-of .form-of .ensures)
+    (part-some F bytes k _ _ (here .here) from size (at-start-at .start-at .ensures)
+    (there-size F bytes k _ _ (at-fact-size .fact-size .ensures .0) (c .before .count-at .ensures .0))
+    record { block = search needs; offset = search needs; bytes = ap (λ n. take n (drop from bytes)) same })
 
 pub body-spec : {M : Type 1} → statement M
 body-spec =
     tie.close
     (tie.spec
+    form-of-requires
     has-body-requires
     sub-result
     part-result-start

@@ -4,7 +4,7 @@ use Prim.Native.Nat.{ℕ}
 use mathlib.Core.Path.{_≡_, refl, subst}
 use mathlib.Core.Logic.{_⊎_, inl, inr}
 use native.Mathlib.Decide.{ℕ-discrete}
-use Rattle.rdfs.specs.Facts.{Graph, cl, pr, ind, lit, csub, psub, dom, rng, ci, pi, _⊑_}
+use Rattle.rdfs.specs.Facts.{Graph, cl, pr, ind, lit, csub, psub, dom, rng, ci, pi, excl, _⊑_}
 use Rattle.rdfs.specs.Consistency.{Lawful}
 use Rattle.rdfs.proofs.lists.Tests.{differ}
 use Rattle.rdfs.proofs.clash.Hierarchy.{Le, le-trans}
@@ -20,6 +20,14 @@ values-typed G c x y z h =
     let t = c .rule-12 x y z h in
     (t .0, t .1, (λ r. c .rule-h3 x y z r h), λ w r n. c .rule-11 y w (c .rule-25 x y z w r n h) .0)
 
+-- The values carried to the properties above.
+abbrev pub Carried : Graph → (ℕ → ℕ → ℕ → Type 0) → ℕ → ℕ → ℕ → Type 0
+Carried G Value x y w = (z : ℕ) × Value x y z × Le (λ p q. G (psub p q)) z w
+
+-- They give no value two holders through an exclusive property: rule E2.
+abbrev pub OneHolder : Graph → (ℕ → ℕ → ℕ → Type 0) → Type 0
+OneHolder G Value = (x y z w : ℕ) → G (excl z) → Carried G Value x y z → Carried G Value w y z → x ≡ w
+
 abbrev pub Full : Graph → (ℕ → ℕ → ℕ → Type 0) → Graph
 Full G Value (cl x) = G (cl x)
 Full G Value (pr x) = G (pr x)
@@ -30,7 +38,8 @@ Full G Value (psub x y) = G (psub x y)
 Full G Value (dom x y) = G (dom x y)
 Full G Value (rng x y) = G (rng x y)
 Full G Value (ci x y) = G (ind x) × G (cl y)
-Full G Value (pi x y w) = (z : ℕ) × Value x y z × Le (λ p q. G (psub p q)) z w
+Full G Value (pi x y w) = Carried G Value x y w
+Full G Value (excl x) = G (excl x)
 
 module _ (G : Graph) (s : Schema G) where
   -- A value is typed for the properties above too: their ranges are the mark together.
@@ -52,8 +61,9 @@ module _ (G : Graph) (s : Schema G) where
       let u = s .ranges .some z (t .1) in
       elim (ℕ-discrete (u .0) 1) [ yes e ↦ inr (t .2 (subst (λ v. G (rng z v)) e (u .1))) | no n ↦ inl (t .3 (u .0) (u .1) n) ]
 
-  pub full-lawful : (Value : ℕ → ℕ → ℕ → Type 0) → ((x y z : ℕ) → Value x y z → Typed G x y z) → Lawful (Full G Value)
-  full-lawful Value typed = record {
+  pub full-lawful : (Value : ℕ → ℕ → ℕ → Type 0) → ((x y z : ℕ) → Value x y z → Typed G x y z) → OneHolder G Value
+      → Lawful (Full G Value)
+  full-lawful Value typed alone = record {
     rule-4 = λ x h k. differ {a = 1} {b = 2} tt (s .roles x class property h k);
     rule-5 = λ x h k. differ {a = 1} {b = 3} tt (s .roles x class individual h k);
     rule-6 = λ x h k. differ {a = 2} {b = 3} tt (s .roles x property individual h k);
@@ -87,9 +97,11 @@ module _ (G : Graph) (s : Schema G) where
     );
     rule-h3 = λ x y z h k. at x y z k .2 h;
     rule-h4 = λ x y z w h k m. beside-mark (λ x y. G (csub x y)) z w (s .ranges .up x y z w h k m);
+    rule-e1 = s .rule-e1;
+    rule-e2 = alone;
   }
     where
-      at : (x y w : ℕ) → (z : ℕ) × Value x y z × Le (λ p q. G (psub p q)) z w → Typed G x y w
+      at : (x y w : ℕ) → Carried G Value x y w → Typed G x y w
       at x y w h = typed-up x y (h .0) w (h .2) (typed x y (h .0) (h .1))
 
 -- It holds a lawful graph that the schema and the values hold.
@@ -105,3 +117,4 @@ full-holds G H Value c to values (dom x y) h = to _ h
 full-holds G H Value c to values (rng x y) h = to _ h
 full-holds G H Value c to values (ci x y) h = let q = c .rule-11 x y h in (to _ (q .0), to _ (q .1))
 full-holds G H Value c to values (pi x y z) h = (z, values x y z h, inl refl)
+full-holds G H Value c to values (excl x) h = to _ h

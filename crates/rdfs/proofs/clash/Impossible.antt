@@ -11,6 +11,7 @@ use Rattle.rdfs.proofs.clash.Hierarchy.{Le, le-trans, order-back}
 use Rattle.rdfs.proofs.clash.OneRole.{RoleName, class, property, individual, literal, is, roleKind, one-role, OtherRole}
 use Rattle.rdfs.proofs.clash.Schema.{schema-of, root-highest, Beside, differ-le, beside-mark, beside-le, le-grows}
 use Rattle.rdfs.proofs.clash.Full.{values-typed}
+use Rattle.rdfs.proofs.clash.SharedValues.{taken-impossible, shared-impossible}
 use Rattle.rdfs.proofs.clash.Possible.{more-held, one-held}
 use Rattle.rdfs.proofs.clash.LookupTests.{PropertyClash, ClassLinkClash, ValueClash, PropertyLinkClash}
 
@@ -21,13 +22,14 @@ module _ (G H : Graph) (g : Lawful G) (c : Lawful H) (sub : _⊑_ G H) where
 
   pub value-impossible : (a b p : ℕ) → G (pr p) → H (pi a b p) → ValueClash G a b p → ⊥
   value-impossible a b p known h (inl o) = role-impossible individual a (c .rule-12 a b p h .0) o
-  value-impossible a b p known h (inr (inl (r, inl o))) = role-impossible literal b (c .rule-h3 a b p (sub (rng p 1) r) h) o
-  value-impossible a b p known h (inr (inl (r, inr e))) =
+  value-impossible a b p known h (inr (inl (inl (r, inl o)))) = role-impossible literal b (c .rule-h3 a b p (sub (rng p 1) r) h) o
+  value-impossible a b p known h (inr (inl (inl (r, inr e)))) =
       c .rule-h2 b (c .rule-h3 a b p (sub (rng p 1) r) h) .2 (subst (λ v. H (ind v)) e (c .rule-12 a b p h .0))
-  value-impossible a b p known h (inr (inr (n, o))) =
+  value-impossible a b p known h (inr (inl (inr (n, o)))) =
       let r = g .rule-15 p known .1 in
       role-impossible individual b (values-typed H c a b p h .3 (r .0) (sub (rng p (r .0)) (r .1))
       (λ e. n (subst (λ v. G (rng p v)) e (r .1)))) o
+  value-impossible a b p known h (inr (inr o)) = taken-impossible G H c sub a b p h o
 
   pub class-link-impossible : (a b : ℕ) → H (csub a b) → ClassLinkClash G a b → ⊥
   class-link-impossible a b h (inl o) = role-impossible class a (c .rule-7 a b h .0) o
@@ -86,10 +88,12 @@ module _ (G H : Graph) (g : Lawful G) (c : Lawful H) (sub : _⊑_ G H) where
     pub property-link-impossible : PropertyLinkClash G a b da db ra rb → ⊥
     property-link-impossible (inl e) = order-back (λ x y. H (psub x y)) (property-strict H c) a b h (inl (sym e))
     property-link-impossible (inr (inl k)) = c .rule-21 a b h (sub (psub b a) k)
-    property-link-impossible (inr (inr (inl (inl m)))) = m .1 (beside-mark Sub ra rb ranges .0 (m .0))
-    property-link-impossible (inr (inr (inl (inr m)))) = m .0 (beside-mark Sub ra rb ranges .1 (m .1))
-    property-link-impossible (inr (inr (inr (inl (n, k))))) = cycle da db domains n (old db da (inr k))
-    property-link-impossible (inr (inr (inr (inr (inl (n, k)))))) = cycle ra rb (beside-le Sub ra rb ranges) n (old rb ra (inr k))
-    property-link-impossible (inr (inr (inr (inr (inr (n, (m, (k, l)))))))) =
+    property-link-impossible (inr (inr (inl (inl (inl m))))) = m .1 (beside-mark Sub ra rb ranges .0 (m .0))
+    property-link-impossible (inr (inr (inl (inl (inr m))))) = m .0 (beside-mark Sub ra rb ranges .1 (m .1))
+    property-link-impossible (inr (inr (inl (inr (inl (n, k)))))) = cycle da db domains n (old db da (inr k))
+    property-link-impossible (inr (inr (inl (inr (inr (inl (n, k))))))) = cycle ra rb (beside-le Sub ra rb ranges) n (old rb ra
+        (inr k))
+    property-link-impossible (inr (inr (inl (inr (inr (inr (n, (m, (k, l))))))))) =
         cycle da db domains n (le-trans Sub classes db ra da (old db ra k) (le-trans Sub classes ra rb da
         (beside-le Sub ra rb ranges) (old rb da l)))
+    property-link-impossible (inr (inr (inr o))) = shared-impossible G H c sub a b h o

@@ -7,9 +7,10 @@ use mathlib.Core.Logic.{inl, inr}
 use mathlib.Core.List.{List, [], _∷_}
 use lib.Dec.{T}
 use Rattle.rdfs.specs.Lists.{_∈_, here, there}
-use Rattle.rdfs.specs.Facts.{Fact, Graph, cl, pr, csub, psub, rng, ci, pi, graph, _⊑_}
+use Rattle.rdfs.specs.Facts.{Fact, Graph, cl, pr, csub, psub, rng, ci, pi, excl, graph, _⊑_}
 use Rattle.rdfs.specs.Consistency.{Lawful}
 use Rattle.rdfs.specs.Tickets.{Ticket, asked, propertyFacts, ticketOf}
+use Rattle.rdfs.specs.Clashes.{twoHolders}
 use Rattle.rdfs.specs.Lookups.{
   otherRole,
   domainOf,
@@ -24,6 +25,7 @@ use Rattle.rdfs.specs.Promises.{Provided, Judged, Possible}
 use Rattle.rdfs.proofs.lists.Tests.{Tests, differ, tests-decides}
 use Rattle.rdfs.proofs.words.FactLaws.{in-list, tests-all-has}
 use Rattle.rdfs.proofs.tickets.TicketTests.{by-kind, given-ids}
+use Rattle.rdfs.proofs.consistency.Holders.{tests-two-holders}
 use Rattle.rdfs.proofs.clash.OneRole.{RoleName, class, individual, literal, is, roleKind, tests-other-role}
 use Rattle.rdfs.proofs.clash.LookedUp.{domain-in, range-in}
 use Rattle.rdfs.proofs.clash.LookupTests.{
@@ -33,6 +35,8 @@ use Rattle.rdfs.proofs.clash.LookupTests.{
   tests-value-clash,
 }
 use Rattle.rdfs.proofs.clash.Possible.{role-possible, member-possible, value-possible, property-possible}
+use Rattle.rdfs.proofs.clash.SharedValues.{two-impossible}
+use Rattle.rdfs.proofs.clash.PossibleExclusive.{exclusive-possible}
 use Rattle.rdfs.proofs.clash.PossibleLinks.{class-link-possible, property-link-possible}
 use Rattle.rdfs.proofs.clash.Impossible.{
   role-impossible,
@@ -78,6 +82,10 @@ module _ (K : List Fact) (c : Lawful (graph K)) where
   class-link-exact a b = exact-of K (csub a b ∷ []) (classLinkClash K a b) _ (tests-class-link-clash K a b)
       (λ H d k w. class-link-impossible (graph K) H c d k a b (w _ (here refl))) (class-link-possible (graph K) c a b)
 
+  exclusive-exact : (a : ℕ) → pr a ∈ K → Exact K (excl a ∷ []) (twoHolders K a)
+  exclusive-exact a h = exact-of K (excl a ∷ []) (twoHolders K a) _ (tests-two-holders K a)
+      (λ H d k w. two-impossible (graph K) H d k a (w _ (here refl))) (exclusive-possible (graph K) c a h)
+
   property-link-exact : (a b : ℕ) → pr a ∈ K → pr b ∈ K → Exact K (psub a b ∷ []) (propertyLinkClash K a b)
   property-link-exact a b ha hb =
       let da : ℕ = domainOf K a in
@@ -102,7 +110,8 @@ module _ (top : ℕ) (K : List Fact) (t : Ticket) (j : Judged top K t) where
       (λ u. property-link-exact K c a b (u .properties a (inl (refl, inl refl)))
       (u .properties b (inl (refl, inr refl))))
       (λ u. member-exact K c a b (u .classes b (j .insert, refl, refl)))
-      (λ u. value-exact K c a b z (u .properties z (inr (refl, refl)))) (j .provided)
+      (λ u. value-exact K c a b z (u .properties z (inr (inl (refl, refl)))))
+      (λ u. exclusive-exact K c a (u .properties a (inr (inr (refl, refl))))) (j .provided)
     where
       a : ℕ
       a = t .a

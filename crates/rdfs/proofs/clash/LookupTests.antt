@@ -21,6 +21,7 @@ use Rattle.rdfs.proofs.words.FactLaws.{tests-has, tests-all-has}
 use Rattle.rdfs.proofs.deletion.Between.{tests-under}
 use Rattle.rdfs.proofs.clash.Hierarchy.{Le}
 use Rattle.rdfs.proofs.clash.OneRole.{OtherRole, tests-other-role}
+use Rattle.rdfs.proofs.clash.SharedValues.{ValueTaken, ValuesShared, tests-taken, tests-shared}
 
 -- a has a role, or the domain b or the range c cannot be a class beside it.
 abbrev pub NewPropertyClash : Graph → ℕ → ℕ → ℕ → Type 0
@@ -32,8 +33,12 @@ PropertyClash G a b c = (_⊑_ (graph (propertyFacts a b c)) G → ⊥) × NewPr
 abbrev pub ClassLinkClash : Graph → ℕ → ℕ → Type 0
 ClassLinkClash G a b = OtherRole G 1 a ⊎ (OtherRole G 1 b ⊎ ((a ≡ b) ⊎ ((a ≡ 0) ⊎ G (csub b a))))
 
+-- b can't be a value of a by property c.
+abbrev pub NoValue : Graph → ℕ → ℕ → ℕ → Type 0
+NoValue G a b c = (G (rng c 1) × (OtherRole G 4 b ⊎ (a ≡ b))) ⊎ ((G (rng c 1) → ⊥) × OtherRole G 3 b)
+
 abbrev pub ValueClash : Graph → ℕ → ℕ → ℕ → Type 0
-ValueClash G a b c = OtherRole G 3 a ⊎ ((G (rng c 1) × (OtherRole G 4 b ⊎ (a ≡ b))) ⊎ ((G (rng c 1) → ⊥) × OtherRole G 3 b))
+ValueClash G a b c = OtherRole G 3 a ⊎ (NoValue G a b c ⊎ ValueTaken G a b c)
 
 -- Exactly one is the mark.
 abbrev pub Mixed : ℕ → ℕ → Type 0
@@ -45,10 +50,14 @@ Backwards G x y = (x ≡ y → ⊥) × G (csub y x)
 abbrev pub CycleOfTwo : Graph → ℕ → ℕ → ℕ → ℕ → Type 0
 CycleOfTwo G x y z w = (x ≡ y → ⊥) × ((z ≡ w → ⊥) × (Le (λ p q. G (csub p q)) y z × Le (λ p q. G (csub p q)) w x))
 
+-- The domains x, y and the ranges z, w of a property and one over it clash.
+abbrev pub EndsClash : Graph → ℕ → ℕ → ℕ → ℕ → Type 0
+EndsClash G x y z w = Mixed z w ⊎ (Backwards G x y ⊎ (Backwards G z w ⊎ CycleOfTwo G x y z w))
+
 -- With the domains da, db and the ranges ra, rb.
 abbrev pub PropertyLinkClash : Graph → ℕ → ℕ → ℕ → ℕ → ℕ → ℕ → Type 0
 PropertyLinkClash G a b da db ra rb =
-    (a ≡ b) ⊎ (G (psub b a) ⊎ (Mixed ra rb ⊎ (Backwards G da db ⊎ (Backwards G ra rb ⊎ CycleOfTwo G da db ra rb))))
+    (a ≡ b) ⊎ (G (psub b a) ⊎ (EndsClash G da db ra rb ⊎ ValuesShared G a b))
 
 module _ (K : List Fact) where
   tests-mixed : (z w : ℕ) → Tests (mixed z w) (Mixed z w)
@@ -78,9 +87,10 @@ module _ (K : List Fact) where
       let db : ℕ = domainOf K b in
       let ra : ℕ = rangeOf K a in
       let rb : ℕ = rangeOf K b in
-      tests-or (tests-eq a b) (tests-or (tests-has K (psub b a)) (tests-or (tests-mixed ra rb)
-      (tests-or (tests-backwards da db) (tests-or (tests-backwards ra rb) (tests-cycle da db ra rb)))))
+      tests-or (tests-eq a b) (tests-or (tests-has K (psub b a)) (tests-or (tests-or (tests-mixed ra rb)
+      (tests-or (tests-backwards da db) (tests-or (tests-backwards ra rb) (tests-cycle da db ra rb)))) (tests-shared K a b)))
 
   pub tests-value-clash : (a b c : ℕ) → Tests (valueClash K a b c) (ValueClash (graph K) a b c)
   tests-value-clash a b c = tests-or (tests-other-role K 3 a)
-      (tests-cond (tests-has K (rng c 1)) (tests-or (tests-other-role K 4 b) (tests-eq a b)) (tests-other-role K 3 b))
+      (tests-or (tests-cond (tests-has K (rng c 1)) (tests-or (tests-other-role K 4 b) (tests-eq a b)) (tests-other-role K 3 b))
+      (tests-taken K a b c))

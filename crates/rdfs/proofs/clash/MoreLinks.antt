@@ -2,7 +2,7 @@
 use Prim.Native.Nat.{ℕ}
 use mathlib.Core.Path.{refl, sym, subst}
 use mathlib.Core.Logic.{inl, inr, ⊎-elim}
-use Rattle.rdfs.specs.Facts.{Graph, cl, pr, ind, lit, csub, psub, dom, rng, ci, pi, _⊑_}
+use Rattle.rdfs.specs.Facts.{Graph, cl, pr, ind, lit, csub, psub, dom, rng, ci, pi, excl, _⊑_}
 use Rattle.rdfs.proofs.clash.Hierarchy.{Le, le-trans, Link, link-order}
 use Rattle.rdfs.proofs.clash.OneRole.{RoleName, class, property, individual, literal, is, OneRole}
 use Rattle.rdfs.proofs.clash.Schema.{Ends, Schema, Beside, le-grows, beside-refl, beside-trans, beside-grows}
@@ -19,6 +19,7 @@ Linked G CSub PSub (dom x y) = G (dom x y)
 Linked G CSub PSub (rng x y) = G (rng x y)
 Linked G CSub PSub (ci x y) = G (ci x y)
 Linked G CSub PSub (pi x y z) = G (pi x y z)
+Linked G CSub PSub (excl x) = G (excl x)
 
 -- Where Q holds, class a is put below class b.
 abbrev pub ClassLink : Graph → Type 0 → ℕ → ℕ → Graph
@@ -40,6 +41,7 @@ linked-holds G CSub PSub c p (dom x y) h = h
 linked-holds G CSub PSub c p (rng x y) h = h
 linked-holds G CSub PSub c p (ci x y) h = h
 linked-holds G CSub PSub c p (pi x y z) h = h
+linked-holds G CSub PSub c p (excl x) h = h
 
 pub class-link-holds : (G : Graph) (Q : Type 0) (a b : ℕ) → _⊑_ G (ClassLink G Q a b)
 class-link-holds G Q a b = linked-holds G (Link (λ x y. G (csub x y)) Q a b) (λ x y. G (psub x y)) (λ x y h. inl h) (λ x y h. h)
@@ -107,6 +109,7 @@ class-link-schema G Q a b s at no-way = record {
   rule-8 = s .rule-8;
   rule-9 = s .rule-9;
   rule-10 = s .rule-10;
+  rule-e1 = s .rule-e1;
   properties = s .properties;
   domains = ends-grow (λ x. G (pr x)) (λ x y. G (psub x y)) (λ x y. G (dom x y)) (Le Old) (Le (Link Old Q a b))
       (le-grows Old (Link Old Q a b) (λ x y h. inl h)) (s .domains);
@@ -127,6 +130,7 @@ property-link-schema G a b s pa pb no-way domain range = record {
   rule-8 = link-both Old (λ x. G (pr x)) (Unit {0}) a b (s .rule-8) (λ q. (pa, pb));
   rule-9 = s .rule-9;
   rule-10 = s .rule-10;
+  rule-e1 = s .rule-e1;
   properties = link-order Old (Unit {0}) a b (s .properties) (λ q. no-way);
   domains = ends-link (λ x. G (pr x)) Old (λ x y. G (dom x y)) (Le Sub) a b (s .domains) (λ x. inl refl)
       (le-trans Sub (s .classes .order)) pa pb domain;

@@ -3,7 +3,7 @@
 use Prim.Native.Nat.{ℕ}
 use mathlib.Core.Path.{_≡_, refl, sym, subst, _∙_}
 use mathlib.Core.Logic.{_⊎_, inl, inr, ⊎-elim}
-use Rattle.rdfs.specs.Facts.{Graph, cl, pr, ind, lit, csub, psub, dom, rng, ci, pi, _⊑_}
+use Rattle.rdfs.specs.Facts.{Graph, cl, pr, ind, lit, csub, psub, dom, rng, ci, pi, excl, _⊑_}
 use Rattle.rdfs.proofs.clash.Hierarchy.{Le}
 use Rattle.rdfs.proofs.clash.OneRole.{RoleName, class, property, individual, literal, is, roleKind, OneRole}
 use Rattle.rdfs.proofs.clash.Schema.{Classes, root-highest, Ends, Schema, Beside, le-grows, beside-grows}
@@ -21,6 +21,7 @@ More G New d r (dom x y) = G (dom x y) ⊎ (New 2 x × (y ≡ d))
 More G New d r (rng x y) = G (rng x y) ⊎ (New 2 x × (y ≡ r))
 More G New d r (ci x y) = G (ci x y)
 More G New d r (pi x y z) = G (pi x y z)
+More G New d r (excl x) = G (excl x)
 
 pub more-holds : (G : Graph) (New : ℕ → ℕ → Type 0) (d r : ℕ) → _⊑_ G (More G New d r)
 more-holds G New d r (cl x) h = inl h
@@ -33,6 +34,7 @@ more-holds G New d r (dom x y) h = inl h
 more-holds G New d r (rng x y) h = inl h
 more-holds G New d r (ci x y) h = h
 more-holds G New d r (pi x y z) h = h
+more-holds G New d r (excl x) h = h
 
 -- No id comes to two roles.
 pub record Apart (G : Graph) (New : ℕ → ℕ → Type 0) : Type 0 where
@@ -108,6 +110,7 @@ module _ (G : Graph) (New : ℕ → ℕ → Type 0) (d r : ℕ) (s : Schema G) (
     rule-10 = λ x y. ⊎-elim
         (λ h. (inl (s .rule-10 x y h .0), λ n. inl (s .rule-10 x y h .1 n)))
         (λ q. (inr (q .0), λ n. inr (subst (New 1) (sym (q .1)) (f .range x (q .0) (λ e. n (q .1 ∙ e))))));
+    rule-e1 = λ x h. inl (s .rule-e1 x h);
     properties = s .properties;
     domains = ends-more (λ x. G (pr x)) (New 2) (λ x y. G (psub x y)) (λ x y. G (dom x y)) (Le Old) (Le Joined) d (s .domains)
         (le-grows Old Joined (λ x y h. inl h)) (s .rule-8) (λ x y h. s .rule-9 x y h .0) (f .fresh);

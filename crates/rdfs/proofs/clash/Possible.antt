@@ -12,7 +12,8 @@ use Rattle.rdfs.proofs.lists.Tests.{differ}
 use Rattle.rdfs.proofs.lists.ListLaws.{in-cons, none-in}
 use Rattle.rdfs.proofs.clash.OneRole.{RoleName, class, property, individual, literal, is, roleKind, role-some, OtherRole}
 use Rattle.rdfs.proofs.clash.Schema.{Schema, schema-of}
-use Rattle.rdfs.proofs.clash.Full.{Typed, values-typed, Full, full-lawful, full-holds}
+use Rattle.rdfs.proofs.clash.Full.{Typed, values-typed, OneHolder, Full, full-lawful, full-holds}
+use Rattle.rdfs.proofs.clash.SharedValues.{ValueTaken, one-holder, Added, added-one-holder}
 use Rattle.rdfs.proofs.clash.MoreRoles.{More, more-holds, Apart, Fits, more-schema, typed-more}
 use Rattle.rdfs.proofs.clash.Wanted.{NoRole, Want, WantTwo, wants-first, wants-second, none-apart, want-apart, two-fit}
 use Rattle.rdfs.proofs.clash.LookupTests.{NewPropertyClash, PropertyClash, ValueClash}
@@ -32,11 +33,11 @@ Values G x y z = G (pi x y z)
 
 module _ (G : Graph) (c : Lawful G) where
   -- A larger schema in which the values stay typed is enough.
-  pub by-schema : (A H : Graph) → Schema H → _⊑_ G H → ((x y z : ℕ) → Typed G x y z → Typed H x y z) → _⊑_ A (Full H (Values G))
-      → Possible G A
-  by-schema A H s holds typed asked = (
+  pub by-schema : (A H : Graph) → Schema H → _⊑_ G H → ((x y z : ℕ) → Typed G x y z → Typed H x y z) → OneHolder H (Values G)
+      → _⊑_ A (Full H (Values G)) → Possible G A
+  by-schema A H s holds typed alone asked = (
     Full H (Values G),
-    full-lawful H s (Values G) (λ x y z h. typed x y z (values-typed G c x y z h)),
+    full-lawful H s (Values G) (λ x y z h. typed x y z (values-typed G c x y z h)) alone,
     full-holds G H (Values G) c holds (λ x y z h. h),
     asked,
   )
@@ -44,7 +45,7 @@ module _ (G : Graph) (c : Lawful G) where
   by-roles : (A : Graph) (New : ℕ → ℕ → Type 0) (d r : ℕ) → Fits G New d r → _⊑_ A (Full (More G New d r) (Values G))
       → Possible G A
   by-roles A New d r f asked = by-schema A (More G New d r) (more-schema G New d r (schema-of G c) f) (more-holds G New d r)
-      (typed-more G New d r (schema-of G c) f) asked
+      (typed-more G New d r (schema-of G c) f) (one-holder G c) asked
 
   -- One id gets the role of kind k, which is none of a property's.
   by-role : (k a : ℕ) → (2 ≡ k → ⊥) → (OtherRole G k a → ⊥) → (f : Fact)
@@ -74,10 +75,10 @@ module _ (G : Graph) (c : Lawful G) where
 
   -- The object b of a new value gets the role of kind l.
   by-value : (a b p l : ℕ) → Fits G (WantTwo 3 a l b) 0 0 → Typed (More G (WantTwo 3 a l b) 0 0) a b p
-      → Possible G (graph (pi a b p ∷ []))
-  by-value a b p l f t = (
+      → (ValueTaken G a b p → ⊥) → Possible G (graph (pi a b p ∷ []))
+  by-value a b p l f t free = (
     Full H Value,
-    full-lawful H (more-schema G New 0 0 (schema-of G c) f) Value typed,
+    full-lawful H (more-schema G New 0 0 (schema-of G c) f) Value typed (added-one-holder G c a b p free),
     full-holds G H Value c (more-holds G New 0 0) (λ x y z h. inl h),
     one-held (Full H Value) (pi a b p) (p, inr (refl, refl, refl), inl refl),
   )
@@ -89,7 +90,7 @@ module _ (G : Graph) (c : Lawful G) where
       H = More G New 0 0
 
       Value : ℕ → ℕ → ℕ → Type 0
-      Value x y z = G (pi x y z) ⊎ ((x ≡ a) × (y ≡ b) × (z ≡ p))
+      Value = Added G c a b p free
 
       typed : (x y z : ℕ) → Value x y z → Typed H x y z
       typed x y z (inl h) = typed-more G New 0 0 (schema-of G c) f x y z (values-typed G c x y z h)
@@ -99,22 +100,23 @@ module _ (G : Graph) (c : Lawful G) where
   pub value-possible : (a b p : ℕ) → Dec (G (rng p 1)) → G (pr p) → (ValueClash G a b p → ⊥) → Possible G (graph (pi a b p ∷ []))
   value-possible a b p d known n = elim d [
     | yes r ↦
-        let f = two-fit G 3 a 4 b (λ o. n (inl o)) (λ o. n (inr (inl (r, inl o)))) (λ e. absurd (n (inr (inl (r, inr e)))))
+        let f = two-fit G 3 a 4 b (λ o. n (inl o)) (λ o. n (inr (inl (inl (r, inl o))))) (λ e. absurd (n (inr (inl (inl
+        (r, inr e))))))
         (differ tt) (differ tt) in
         by-value a b p 4 f (
           inr (wants-first 3 a 4 b),
           inl known,
           (λ h. inr (wants-second 3 a 4 b)),
           λ w h m. absurd (⊎-elim (λ g. m (c .rule-17 p w 1 g r)) (λ q. f .fresh p (q .0) known) h),
-        )
+        ) (λ o. n (inr (inr o)))
     | no m ↦
-        let f = two-fit G 3 a 3 b (λ o. n (inl o)) (λ o. n (inr (inr (m, o)))) (λ e. refl) (differ tt) (differ tt) in
+        let f = two-fit G 3 a 3 b (λ o. n (inl o)) (λ o. n (inr (inl (inr (m, o))))) (λ e. refl) (differ tt) (differ tt) in
         by-value a b p 3 f (
           inr (wants-first 3 a 3 b),
           inl known,
           (λ h. absurd (⊎-elim m (λ q. f .fresh p (q .0) known) h)),
           λ w h o. inr (wants-second 3 a 3 b),
-        )
+        ) (λ o. n (inr (inr o)))
   ]
 
   -- A property with its domain b and its range z: a has no role at all.

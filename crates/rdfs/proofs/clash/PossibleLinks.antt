@@ -12,6 +12,7 @@ use Rattle.rdfs.proofs.lists.Tests.{differ}
 use Rattle.rdfs.proofs.clash.Hierarchy.{Le, link-self}
 use Rattle.rdfs.proofs.clash.Schema.{Schema, schema-of, Beside, le-differ, beside-differ}
 use Rattle.rdfs.proofs.clash.Full.{Full}
+use Rattle.rdfs.proofs.clash.SharedValues.{one-holder, joined-one-holder}
 use Rattle.rdfs.proofs.clash.MoreRoles.{More, more-holds, more-schema, typed-more}
 use Rattle.rdfs.proofs.clash.MoreLinks.{
   ClassLink,
@@ -44,7 +45,7 @@ module _ (G : Graph) (c : Lawful G) where
       let s : Schema H = class-link-schema J (Unit {0}) a b (more-schema G New 0 0 (schema-of G c) fits)
       (λ q. (inr (wants-first 1 a 1 b), inr (wants-second 1 a 1 b))) (λ q. no-way) in
       by-schema G c (graph (csub a b ∷ [])) H s (λ f h. class-link-holds J (Unit {0}) a b f (more-holds G New 0 0 f h))
-      (typed-more G New 0 0 (schema-of G c) fits)
+      (typed-more G New 0 0 (schema-of G c) fits) (one-holder G c)
       (one-held (Full H (Values G)) (csub a b) (link-self (λ x y. J (csub x y)) (Unit {0}) a b tt))
 
   -- The link of the domains goes in first, then that of the ranges, each where the two differ, then the link of the properties.
@@ -53,7 +54,8 @@ module _ (G : Graph) (c : Lawful G) where
   property-link-possible a b da db ra rb at-da at-db at-ra at-rb n =
       by-schema G c (graph (psub a b ∷ [])) Whole whole (λ f h. property-link-holds Second a b f (class-link-holds First Q₂ ra rb
       f (class-link-holds G Q₁ da db f h)))
-      (λ x y z t. t) (one-held (Full Whole (Values G)) (psub a b) (link-self (λ x y. G (psub x y)) (Unit {0}) a b tt))
+      (λ x y z t. t) (joined-one-holder G c a b (λ o. n (inr (inr (inr o))))) (one-held (Full Whole (Values G)) (psub a b)
+      (link-self (λ x y. G (psub x y)) (Unit {0}) a b tt))
     where
       Q₁ : Type 0
       Q₁ = da ≡ db → ⊥
@@ -71,11 +73,11 @@ module _ (G : Graph) (c : Lawful G) where
       Whole = PropertyLink Second a b
 
       marks : (ra ≡ 1 → rb ≡ 1) × (rb ≡ 1 → ra ≡ 1)
-      marks = same-mark ra rb (λ m. n (inr (inr (inl m))))
+      marks = same-mark ra rb (λ m. n (inr (inr (inl (inl m)))))
 
       first : Schema First
       first = class-link-schema G Q₁ da db (schema-of G c) (λ q. (c .rule-9 a da at-da .1, c .rule-9 b db at-db .1))
-          (λ q. ⊎-elim (λ e. q (sym e)) (λ h. n (inr (inr (inr (inl (q, h)))))))
+          (λ q. ⊎-elim (λ e. q (sym e)) (λ h. n (inr (inr (inl (inr (inl (q, h))))))))
 
       range-classes : Q₂ → G (cl ra) × G (cl rb)
       range-classes q = (
@@ -85,8 +87,8 @@ module _ (G : Graph) (c : Lawful G) where
 
       second : Schema Second
       second = class-link-schema First Q₂ ra rb first range-classes
-          (λ q. ⊎-elim (λ e. q (sym e)) (⊎-elim (λ h. n (inr (inr (inr (inr (inl (q, h)))))))
-          (λ p. n (inr (inr (inr (inr (inr (p .0, (q, (p .2, p .1)))))))))))
+          (λ q. ⊎-elim (λ e. q (sym e)) (⊎-elim (λ h. n (inr (inr (inl (inr (inr (inl (q, h))))))))
+          (λ p. n (inr (inr (inl (inr (inr (inr (p .0, (q, (p .2, p .1))))))))))))
 
       domains : (z w : ℕ) → G (dom a z) → G (dom b w) → Le (λ x y. Second (csub x y)) z w
       domains z w h k =

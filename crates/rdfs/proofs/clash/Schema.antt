@@ -5,7 +5,7 @@ use mathlib.Core.Path.{_≡_, refl, sym, subst, _∙_}
 use mathlib.Core.Logic.{_⊎_, inl, inr}
 use native.Mathlib.Decide.{ℕ-discrete}
 use Rattle.rdfs.specs.Facts.{Graph, cl, pr, csub, psub, dom, rng}
-use Rattle.rdfs.specs.Rules.{Meets, r8, r9, r10}
+use Rattle.rdfs.specs.Rules.{Meets, r8, r9, r10, e1}
 use Rattle.rdfs.specs.Consistency.{Lawful}
 use Rattle.rdfs.proofs.deletion.Between.{Strict, class-strict, property-strict}
 use Rattle.rdfs.proofs.clash.Hierarchy.{Le, le-trans}
@@ -41,6 +41,7 @@ pub record Schema (G : Graph) : Type 0 where
   pub rule-8 : Meets G r8
   pub rule-9 : Meets G r9
   pub rule-10 : Meets G r10
+  pub rule-e1 : Meets G e1
   pub properties : Strict (λ x y. G (psub x y))
   pub domains : Ends (λ x. G (pr x)) (λ x y. G (psub x y)) (λ x y. G (dom x y)) (Le (λ x y. G (csub x y)))
   pub ranges : Ends (λ x. G (pr x)) (λ x y. G (psub x y)) (λ x y. G (rng x y)) (Beside (λ x y. G (csub x y)))
@@ -75,6 +76,7 @@ schema-of G c = record {
   rule-8 = c .rule-8;
   rule-9 = c .rule-9;
   rule-10 = c .rule-10;
+  rule-e1 = c .rule-e1;
   properties = property-strict G c;
   domains = record {
     some = λ x h. c .rule-15 x h .0;

@@ -7,13 +7,14 @@ use mathlib.Core.List.{List}
 use native.Mathlib.Decide.{ℕ-discrete}
 use lib.Dec.{T, eqb, eqb→eq}
 use Rattle.rdfs.specs.Lists.{_∈_, here, there, any}
-use Rattle.rdfs.specs.Facts.{Fact, cl, pr, ind, lit, csub, psub, dom, rng, ci, pi, second, has, Graph, graph}
+use Rattle.rdfs.specs.Facts.{Fact, cl, pr, ind, lit, csub, psub, dom, rng, ci, pi, excl, second, has, Graph, graph}
 use Rattle.rdfs.specs.Demands.{withA}
 use Rattle.rdfs.specs.Clashes.{bars, mixed, unequal, clash, clashes}
 use Rattle.rdfs.proofs.lists.Tests.{and-both, both-and, or-either, either-or, differ, differs}
 use Rattle.rdfs.proofs.lists.ListLaws.{in-cons, in-one, none-in, any-in, in-any}
 use Rattle.rdfs.proofs.words.FactLaws.{has-in, in-has, from-a, to-a}
 use Rattle.rdfs.proofs.consistency.LawfulParts.{Forbids, All}
+use Rattle.rdfs.proofs.consistency.Holders.{tests-two-holders}
 
 not-mixed : (z w : ℕ) → (T (mixed z w) → ⊥) → (z ≡ 1 → w ≡ 1) × (w ≡ 1 → z ≡ 1)
 not-mixed z w n = (
@@ -59,6 +60,8 @@ module _ (C : List Fact) (free : T (clashes C) → ⊥) where
     fh4 = λ x y z w h k m. not-mixed z w (λ t. no-unequal (psub x y) h
         (in-any (λ f. any (λ g. mixed (second f) (second g)) (withA C 8 y)) (to-a C k) (in-any (λ g. mixed z (second g))
         (to-a C m) t)));
+    fe2 = λ x y z w h k m. one-value x w (λ t. no-unequal (excl z) h (tests-two-holders C z .complete
+        record { one = x; another = w; value = y; first = k; second = m; other = differ t }));
   }
 
 -- A list with a clash lies in no graph that keeps the rules that forbid.
@@ -76,6 +79,7 @@ module _ (C : List Fact) (G : Graph) (p : Forbids G) (inG : All G C) where
   bar-none (rng x y) g h m k = none-in m
   bar-none (ci x y) g h m k = none-in m
   bar-none (pi x y z) g h m k = none-in m
+  bar-none (excl x) g h m k = none-in m
 
   unequal-none : (f : Fact) → G f → T (unequal C f) → ⊥
   unfolding unequal
@@ -102,6 +106,9 @@ module _ (C : List Fact) (G : Graph) (p : Forbids G) (inG : All G C) where
       differ (r .2) (p .f17 x y (second (r .0)) h (inG _ (from-a C 8 x (r .1))))
   unequal-none (ci x y) h t = t
   unequal-none (pi x y z) h t = t
+  unequal-none (excl z) h t =
+      let s = tests-two-holders C z .sound t in
+      s .other (p .fe2 (s .one) (s .value) z (s .another) h (inG _ (s .first)) (inG _ (s .second)))
 
   pub clash-none : T (clashes C) → ⊥
   clash-none t =

@@ -4,7 +4,7 @@ use mathlib.Core.Logic.{inl, inr, ⊎-elim}
 use mathlib.Core.List.{List}
 use lib.Dec.{T, T-not, not-T}
 use Rattle.rdfs.specs.Lists.{_∈_, all, any}
-use Rattle.rdfs.specs.Facts.{Fact, cl, pr, ind, lit, csub, psub, dom, rng, ci, pi, second, has, graph}
+use Rattle.rdfs.specs.Facts.{Fact, cl, pr, ind, lit, csub, psub, dom, rng, ci, pi, excl, second, has, graph}
 use Rattle.rdfs.specs.Consistency.{Consistent}
 use Rattle.rdfs.specs.Demands.{withA, needs}
 use Rattle.rdfs.specs.Clashes.{clashes, existsFor, consistent?}
@@ -58,6 +58,7 @@ module _ (K : List Fact) where
   found c (ci x y) h = tt
   found c (pi x y z) h = either-or (has K (ind y)) (has K (lit y)) (⊎-elim (λ i. inl (in-has K (ind y) i))
       (λ l. inr (in-has K (lit y) l)) (c .rule-12 x y z h .2))
+  found c (excl x) h = tt
 
   pub check-complete : Consistent (graph K) → T (consistent? K)
   unfolding consistent?

@@ -34,6 +34,8 @@ use Rattle.rdfs.specs.Rules.{
   h2,
   h3,
   h4,
+  e1,
+  e2,
 }
 use Rattle.rdfs.specs.Consistency.{Lawful}
 
@@ -59,6 +61,7 @@ pub record Demands (G : Graph) : Type 0 where
   pub d26 : Meets G r26
   pub d27 : Meets G r27
   pub dh3 : Meets G h3
+  pub de1 : Meets G e1
 
 pub record Forbids (G : Graph) : Type 0 where
   pub f4 : Meets G r4
@@ -70,6 +73,7 @@ pub record Forbids (G : Graph) : Type 0 where
   pub f21 : Meets G r21
   pub fh2 : Meets G h2
   pub fh4 : Meets G h4
+  pub fe2 : Meets G e2
 
 pub record Exists (G : Graph) : Type 0 where
   pub e12 : (x y z : ℕ) → G (pi x y z) → G (ind y) ⊎ G (lit y)
@@ -95,6 +99,7 @@ demands G c = record {
   d26 = c .rule-26;
   d27 = c .rule-27;
   dh3 = c .rule-h3;
+  de1 = c .rule-e1;
 }
 
 pub forbids : (G : Graph) → Lawful G → Forbids G
@@ -108,6 +113,7 @@ forbids G c = record {
   f21 = c .rule-21;
   fh2 = c .rule-h2;
   fh4 = c .rule-h4;
+  fe2 = c .rule-e2;
 }
 
 pub lawful-of : (G : Graph) → Demands G → Forbids G → Exists G → Lawful G
@@ -140,6 +146,8 @@ lawful-of G d p e = record {
   rule-h2 = p .fh2;
   rule-h3 = d .dh3;
   rule-h4 = p .fh4;
+  rule-e1 = d .de1;
+  rule-e2 = p .fe2;
 }
 
 -- A part of a graph breaks no rule that forbids, if the graph breaks none.
@@ -154,6 +162,7 @@ forbids-part G H sub p = record {
   f21 = λ x y h k. p .f21 x y (sub _ h) (sub _ k);
   fh2 = λ x h. let q = p .fh2 x (sub _ h) in ((λ k. q .0 (sub _ k)), (λ k. q .1 (sub _ k)), (λ k. q .2 (sub _ k)));
   fh4 = λ x y z w h k m. p .fh4 x y z w (sub _ h) (sub _ k) (sub _ m);
+  fe2 = λ x y z w h k m. p .fe2 x y z w (sub _ h) (sub _ k) (sub _ m);
 }
 
 -- A part of a lawful graph is lawful if it meets the demands and has what the rules ask to exist.
@@ -180,6 +189,7 @@ demands-same G H to from d = record {
   d26 = λ x y z h k. to _ (d .d26 x y z (from _ h) (from _ k));
   d27 = λ x y z w h k. to _ (d .d27 x y z w (from _ h) (from _ k));
   dh3 = λ x y z h k. to _ (d .dh3 x y z (from _ h) (from _ k));
+  de1 = λ x h. to _ (d .de1 x (from _ h));
 }
 
 pub lawful-same : (G H : Graph) → _⊑_ G H → _⊑_ H G → Lawful G → Lawful H

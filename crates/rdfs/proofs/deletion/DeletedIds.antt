@@ -41,6 +41,7 @@ mentions-downward G S s = record {
     by-15-domain = λ x y h. ⊎-elim (λ g. g) (s .domain x y h);
     by-15-range = λ x y h. ⊎-elim (λ g. g) (s .range x y h);
     by-h1 = s .no-resource;
+    by-e1 = λ x g. g;
   };
   links = record {
     by-13 = λ x. ⊎-elim (λ g. g) (λ g. absurd (s .no-resource g));

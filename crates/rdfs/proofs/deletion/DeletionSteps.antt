@@ -50,7 +50,7 @@ named-deletable t d h n = of (t .operation) (t .kind) (t .a) (t .b) (t .c) d h n
         (λ n e. n (both-and (eqb o 2) (eqb b 0) d (zero-id b e)))
         (λ n. tt)
         (λ n e. n (both-and (eqb o 2) (eqb b 0) d (zero-id b e)))
-        (λ n. tt)
+        (λ n. tt) (λ n. tt)
       where
         zero-id : (x : ℕ) → x ≡ 0 → T (eqb x 0)
         zero-id x e = subst (λ y. T (eqb y 0)) (sym e) tt
@@ -114,6 +114,11 @@ module _ (N : Numbers) (s : Sound N) (w bytes : List ℕ) (t : Table N w) (d : T
         let b = facts-padded N s (length w) (deletion K gone) left-allowed in
         subst (λ v. Largest (graph K) gone (keeps gone) (graph (facts N v))) (sym table-is) (largest-same (graph K) gone
         (keeps gone) (graph (deletion K gone)) _ (b .1) (b .0) largest)
+
+    -- What the filter leaves is left.
+    pub deletion-leaves : deletion K gone ⊆ facts N (step N w bytes .table)
+    deletion-leaves g h = subst (λ v. g ∈ facts N v) (sym table-is)
+        (facts-padded N s (length w) (deletion K gone) left-allowed .1 g h)
 
     pub deletion-table : Table N (step N w bytes .table)
     deletion-table = subst (Table N) (sym table-is) (left-table N s w t (deletion K gone) left-allowed (largest .consistent)

@@ -86,7 +86,7 @@ of-kinds-lost H k P m Q lost lost′ f h g = ⊎-elim
     (λ q. lost (first f) (second f) (third f) (of-kind-made H k f h (q .0)) (q .1))
     (λ q. lost′ (first f) (second f) (third f) (of-kind-made H m f h (q .0)) (q .1)) (of-kinds k P m Q f g)
 
--- Class links and property links; memberships and values; both.
+-- Class links and property links; memberships and values; both, and Excl.
 abbrev pub linkKinds : List ℕ
 linkKinds = 5 ∷ 6 ∷ []
 
@@ -94,7 +94,7 @@ abbrev pub memberKinds : List ℕ
 memberKinds = 9 ∷ 10 ∷ []
 
 abbrev pub nonRoleKinds : List ℕ
-nonRoleKinds = linkKinds ++ memberKinds
+nonRoleKinds = linkKinds ++ (memberKinds ++ (11 ∷ []))
 
 -- Where only these go, every demanded role, domain and range stays.
 pub roles-stay : (Gone G : Graph) → ((f : Fact) → Gone f → T (member nonRoleKinds (kind f))) → RolesDownward Gone G
@@ -109,6 +109,7 @@ roles-stay Gone G only = record {
   by-15-domain = λ x y h g. absurd (only _ g);
   by-15-range = λ x y h g. absurd (only _ g);
   by-h1 = λ g. only _ g;
+  by-e1 = λ x g. absurd (only _ g);
 }
 
 -- Where only memberships and values go, every demanded link stays.

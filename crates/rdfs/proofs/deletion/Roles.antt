@@ -6,7 +6,7 @@ use mathlib.Core.Bool.{Bool}
 use mathlib.Core.Logic.{_⊎_, inl, inr, ⊎-elim}
 use mathlib.Core.List.{List, [], _∷_}
 use Rattle.rdfs.specs.Lists.{any}
-use Rattle.rdfs.specs.Facts.{Fact, cl, pr, ind, lit, csub, psub, dom, rng, ci, pi, ids, Graph, _⊑_}
+use Rattle.rdfs.specs.Facts.{Fact, cl, pr, ind, lit, csub, psub, dom, rng, ci, pi, excl, ids, Graph, _⊑_}
 use Rattle.rdfs.specs.Consistency.{Lawful}
 use Rattle.rdfs.proofs.lists.Tests.{Tests, tests-or, tests-as, tests-none}
 
@@ -78,3 +78,4 @@ module _ (H : Graph) (c : Lawful H) (S : ℕ → Type 0) (no-mark : S 1 → ⊥)
   mentions-none (pi a b v) h = let q =
       c .rule-12 a b v h in ⊎-elim (no-individual a (q .0)) (⊎-elim (⊎-elim (no-individual b) (no-literal b) (q .2))
       (no-property v (q .1)))
+  mentions-none (excl a) h = no-property a (c .rule-e1 a h)

@@ -4,7 +4,7 @@ use mathlib.Core.Path.{_≡_, refl, sym, subst, _∙_}
 use mathlib.Core.Logic.{⊎-elim}
 use mathlib.Core.List.{List}
 use Rattle.rdfs.specs.Lists.{_∈_, here, there, _⊆_}
-use Rattle.rdfs.specs.Facts.{Fact, cl, pr, csub, psub, dom, rng, ci, pi, graph}
+use Rattle.rdfs.specs.Facts.{Fact, cl, pr, csub, psub, dom, rng, ci, pi, excl, graph}
 use Rattle.rdfs.specs.Consistency.{Lawful}
 use Rattle.rdfs.specs.Tickets.{Ticket, asked, ticketOf}
 use Rattle.rdfs.specs.Orders.{MakesProperty, MakesClass}
@@ -36,6 +36,7 @@ module _ (K : List Fact) (t : Ticket) (all : asked t ⊆ K) where
       properties = λ p. ⊎-elim
           (λ u. let ends = c .rule-8 (t .a) (t .b) (at 6 (u .0) (psub (t .a) (t .b)) (here refl)) in
           ⊎-elim (λ e. is pr e (ends .0)) (λ e. is pr e (ends .1)) (u .1))
-          (λ u. is pr (u .1) (c .rule-12 (t .a) (t .b) (t .c) (at 10 (u .0) (pi (t .a) (t .b) (t .c)) (here refl)) .1));
+          (⊎-elim (λ u. is pr (u .1) (c .rule-12 (t .a) (t .b) (t .c) (at 10 (u .0) (pi (t .a) (t .b) (t .c)) (here refl)) .1))
+          (λ u. is pr (u .1) (c .rule-e1 (t .a) (at 11 (u .0) (excl (t .a)) (here refl)))));
       classes = λ x u. is cl (u .2) (c .rule-11 (t .a) (t .b) (at 9 (u .1) (ci (t .a) (t .b)) (here refl)) .1);
     }

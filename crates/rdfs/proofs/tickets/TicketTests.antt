@@ -8,7 +8,7 @@ use native.Mathlib.Omega.{arith}
 use lib.Dec.{T, eqb, ltb, not-T, nltb→le}
 use Rattle.rdfs.specs.Numbers.{ticketKinds}
 use Rattle.rdfs.specs.Lists.{_∈_, member}
-use Rattle.rdfs.specs.Facts.{Fact, cl, pr, ind, lit, csub, psub, dom, rng, ci, pi, has}
+use Rattle.rdfs.specs.Facts.{Fact, cl, pr, ind, lit, csub, psub, dom, rng, ci, pi, excl, has}
 use Rattle.rdfs.specs.Tickets.{
   Ticket,
   inserts,
@@ -43,12 +43,13 @@ use Rattle.rdfs.proofs.consistency.LawfulParts.{All}
 use Rattle.rdfs.proofs.words.Allowed.{Allowed, Id, Ids, ids-allowed}
 
 -- by kind
-pub by-kind {ℓ} : (P : ℕ → Type ℓ) (k : ℕ) → k ∈ ticketKinds → P 1 → P 2 → P 3 → P 4 → P 5 → P 6 → P 9 → P 10 → P k
-by-kind P k h p1 p2 p3 p4 p5 p6 p9 p10 =
+pub by-kind {ℓ} : (P : ℕ → Type ℓ) (k : ℕ) → k ∈ ticketKinds → P 1 → P 2 → P 3 → P 4 → P 5 → P 6 → P 9 → P 10 → P 11
+    → P k
+by-kind P k h p1 p2 p3 p4 p5 p6 p9 p10 p11 =
     ⊎-elim (λ e. subst P (sym e) p1) (λ h. ⊎-elim (λ e. subst P (sym e) p2) (λ h. ⊎-elim (λ e. subst P (sym e) p3) (λ h.
     ⊎-elim (λ e. subst P (sym e) p4) (λ h.
     ⊎-elim (λ e. subst P (sym e) p5) (λ h. ⊎-elim (λ e. subst P (sym e) p6) (λ h. ⊎-elim (λ e. subst P (sym e) p9)
-    (λ h. subst P (sym (in-one h)) p10)
+    (λ h. ⊎-elim (λ e. subst P (sym e) p10) (λ h. subst P (sym (in-one h)) p11) (in-cons h))
     (in-cons h)) (in-cons h)) (in-cons h)) (in-cons h)) (in-cons h)) (in-cons h)) (in-cons h)
 
 -- A test that does not fail holds.
@@ -74,11 +75,16 @@ module _ (K : List Fact) (t : Ticket) where
   there : (f : Fact) → ((f ∈ K → ⊥) → ⊥) → f ∈ K
   there f h = tests-has K f .sound (stands (has K f) (λ m. h (lacks f .sound m)))
 
-  tests-unknown-property : Tests (unknownProperty K t) (T (inserts t)
-      × (((t .kind ≡ 6) × ((pr (t .a) ∈ K → ⊥) ⊎ (pr (t .b) ∈ K → ⊥))) ⊎ ((t .kind ≡ 10) × (pr (t .c) ∈ K → ⊥))))
+  -- A property that the ticket uses does not stand.
+  abbrev pub Unknown : Type 0
+  Unknown =
+      ((t .kind ≡ 6) × ((pr (t .a) ∈ K → ⊥) ⊎ (pr (t .b) ∈ K → ⊥)))
+      ⊎ (((t .kind ≡ 10) × (pr (t .c) ∈ K → ⊥)) ⊎ ((t .kind ≡ 11) × (pr (t .a) ∈ K → ⊥)))
+
+  pub tests-unknown-property : Tests (unknownProperty K t) (T (inserts t) × Unknown)
   tests-unknown-property = tests-and (tests-self (inserts t))
       (tests-or (tests-and (tests-eq (t .kind) 6) (tests-or (lacks (pr (t .a))) (lacks (pr (t .b)))))
-      (tests-and (tests-eq (t .kind) 10) (lacks (pr (t .c)))))
+      (tests-or (tests-and (tests-eq (t .kind) 10) (lacks (pr (t .c)))) (tests-and (tests-eq (t .kind) 11) (lacks (pr (t .a))))))
 
   pub tests-unknown-class : Tests (unknownClass K t) (T (inserts t) × ((t .kind ≡ 9) × (cl (t .b) ∈ K → ⊥)))
   tests-unknown-class = tests-and (tests-self (inserts t)) (tests-and (tests-eq (t .kind) 9) (lacks (cl (t .b))))
@@ -86,19 +92,20 @@ module _ (K : List Fact) (t : Ticket) where
   -- CI uses no property.
   pub member-no-property : t .kind ≡ 9 → T (unknownProperty K t) → ⊥
   member-no-property e h =
-      ⊎-elim (λ q. omega (arith, e, q .0)) (λ q. omega (arith, e, q .0)) (tests-unknown-property .sound h .1)
+      ⊎-elim (λ q. omega (arith, e, q .0)) (⊎-elim (λ q. omega (arith, e, q .0)) (λ q. omega (arith, e, q .0)))
+      (tests-unknown-property .sound h .1)
 
   -- Past both, what an insertion uses stands.
   pub known-provided : T (inserts t) → Known K t → Provided K t
   known-provided i k = record {
     properties = λ p. ⊎-elim
         (λ q. ⊎-elim (λ e. at e (λ m. property (inl (q .0, inl m)))) (λ e. at e (λ m. property (inl (q .0, inr m)))) (q .1))
-        (λ q. at (q .1) (λ m. property (inr (q .0, m))));
+        (⊎-elim (λ q. at (q .1) (λ m. property (inr (inl (q .0, m))))) (λ q. at (q .1) (λ m. property (inr (inr (q .0, m))))));
     classes = λ x u. subst (λ y. cl y ∈ K) (sym (u .2))
         (there (cl (t .b)) (λ m. k .class (tests-unknown-class .complete (i, (u .1, m)))));
   }
     where
-      property : ((t .kind ≡ 6) × ((pr (t .a) ∈ K → ⊥) ⊎ (pr (t .b) ∈ K → ⊥))) ⊎ ((t .kind ≡ 10) × (pr (t .c) ∈ K → ⊥)) → ⊥
+      property : Unknown → ⊥
       property q = k .property (tests-unknown-property .complete (i, q))
 
       at : {p x : ℕ} → p ≡ x → ((pr x ∈ K → ⊥) → ⊥) → pr p ∈ K
@@ -109,7 +116,8 @@ module _ (K : List Fact) (t : Ticket) where
     property = λ h. ⊎-elim
         (λ q. ⊎-elim (λ m. m (u .properties (t .a) (inl (q .0, inl refl)))) (λ m. m (u .properties (t .b) (inl (q .0, inr refl))))
         (q .1))
-        (λ q. q .1 (u .properties (t .c) (inr (q .0, refl)))) (tests-unknown-property .sound h .1);
+        (⊎-elim (λ q. q .1 (u .properties (t .c) (inr (inl (q .0, refl)))))
+        (λ q. q .1 (u .properties (t .a) (inr (inr (q .0, refl)))))) (tests-unknown-property .sound h .1);
     class = λ h. let q = tests-unknown-class .sound h .1 in q .1 (u .classes (t .b) (i, q .0, refl));
   }
 
@@ -169,6 +177,7 @@ asked-allowed top t i h n = of (t .operation) (t .kind) (t .a) (t .b) (t .c) i h
             given-ids top (ticketOf o 10 a b c) n .c-mark (λ p. and-both (eqb o 1) false p .1),
           ),
         ))
+        (λ n. single (excl a) (fst 11 n))
       where
         fst : (k : ℕ) → (T (badIds top (ticketOf o k a b c)) → ⊥) → Id top a
         fst k n = let g = given-ids top (ticketOf o k a b c) n in (g .a-top, g .a-mark)

@@ -1,10 +1,11 @@
 -- A fact's word and a word's fact: with ids below the base, each says the other. Assumes nothing.
-use Prim.Native.Nat.{ℕ, _+_, _*_, _/_, _%_, _≤_, _<_}
+use Prim.Native.Nat.{ℕ, suc, _+_, _*_, _/_, _%_, _≤_, _<_}
 use mathlib.Core.Path.{_≡_, sym, ap, _∙_}
 use native.Mathlib.Omega.{arith}
 use native.Mathlib.Nat.{mul-le-mul-right, mul-add-div-right, div-eq-of-lt, mul-add-mod-self-right, mod-eq-of-lt}
 use native.Mathlib.Decide.{decLt}
-use Rattle.rdfs.specs.Facts.{Fact, cl, pr, ind, lit, csub, psub, dom, rng, ci, pi, kind, first, second, third, made}
+use Rattle.rdfs.specs.Numbers.{kindCount}
+use Rattle.rdfs.specs.Facts.{Fact, cl, pr, ind, lit, csub, psub, dom, rng, ci, pi, excl, kind, first, second, third, made}
 use Rattle.rdfs.specs.Words.{word, fact}
 use Rattle.rdfs.proofs.words.FactLaws.{made-of}
 
@@ -39,7 +40,7 @@ word-says B f g p q e =
     ∙ (ap (λ n. made (kind g) (first g) n (third f)) (c .1) ∙ (ap (λ n. made (kind g) (first g) (second g) n) (d .1)
     ∙ made-of g))))
 
-pub kind-below : (f : Fact) → kind f < 11
+pub kind-below : (f : Fact) → kind f < suc kindCount
 kind-below (cl a) = omega arith
 kind-below (pr a) = omega arith
 kind-below (ind a) = omega arith
@@ -50,9 +51,11 @@ kind-below (dom a b) = omega arith
 kind-below (rng a b) = omega arith
 kind-below (ci a b) = omega arith
 kind-below (pi a b c) = omega arith
+kind-below (excl a) = omega arith
 
-pub word-bound : (B : ℕ) (f : Fact) → Below B f → word B f < 11 * B * B * B
-word-bound B f b = digit-bound B _ (third f) _ (digit-bound B _ (second f) _ (digit-bound B (kind f) (first f) 11 (kind-below f)
+pub word-bound : (B : ℕ) (f : Fact) → Below B f → word B f < suc kindCount * B * B * B
+word-bound B f b = digit-bound B _ (third f) _ (digit-bound B _ (second f) _ (digit-bound B (kind f) (first f) (suc kindCount)
+    (kind-below f)
     (b .one)) (b .two)) (b .three)
 
 kind-some : (f : Fact) → 0 < kind f
@@ -66,6 +69,7 @@ kind-some (dom a b) = omega arith
 kind-some (rng a b) = omega arith
 kind-some (ci a b) = omega arith
 kind-some (pi a b c) = omega arith
+kind-some (excl a) = omega arith
 
 digit-some : (B q r : ℕ) → 1 < B → 0 < q → 0 < q * B + r
 digit-some B q r h k = omega (arith, mul-le-mul-right B k)

@@ -17,6 +17,7 @@ use Rattle.rdfs.specs.Facts.{
   rng,
   ci,
   pi,
+  excl,
   kind,
   first,
   second,
@@ -43,6 +44,7 @@ made-of (dom a b) = refl
 made-of (rng a b) = refl
 made-of (ci a b) = refl
 made-of (pi a b c) = refl
+made-of (excl a) = refl
 
 module _ (K : List Fact) (k x : ℕ) where
   pub from-a : {f : Fact} → f ∈ withA K k x → made k x (second f) (third f) ∈ K

@@ -4,15 +4,12 @@ use mathlib.Core.Path.{sym, subst, _∙_}
 use Prim.Native.Nat.{_≤_, _<_}
 use lib.ListN.{length}
 use lib.Seq.{length-take-le}
-use borrow.Author.Tests.{not-true, not-false}
 use Rattle.rdfs.specs.Numbers.{product}
-use Rattle.table.proofs.TestAnswers.{decides-true, decides-false}
 use Rattle.table.proofs.Sizes.{size-most}
 use Rattle.table.proofs.Zeros.{take-zeros}
-use Rattle.contents.specs.ImageForm.{form}
-use Rattle.contents.specs.Reading.{malformed}
-use Rattle.contents.proofs.Product.{legible, wrong-malformed}
-use Rattle.reading.proofs.ReadCall.{read-refused, read-small, read-malformed, overfull-some, read-overfull}
+use Rattle.contents.proofs.ImageForms.{legible-given}
+use Rattle.reading.proofs.ReadCall.{read-refused, read-small, read-malformed}
+use Rattle.reading.proofs.ReadForms.{right-read, wrong-read, overfull-read, fitting-read}
 use borrow.Author.Needs.{needs}
 use Rattle.reading.proofs.read.Statement.{statement}
 use Rattle.reading.proofs.read.Tie as tie
@@ -30,43 +27,43 @@ returns c =
     let bytes = s .args .image .now in
     read-refused words bytes 1 (read-small words bytes (sym (c .before .is-bad-size .ensures) ∙ c .if1 .taken)) (omega arith)
 
+form-of-requires : tie.Need-form-of-requires
+form-of-requires c κs = search needs
+
 has-contents-requires : tie.Need-has-contents-requires
-has-contents-requires c κs = legible
+has-contents-requires c κs =
+    let s = c .before .before .before .before .before .before in
+    legible-given (s .args .image .now) _ (c .form-of .ensures)
 
 same-length-2 : tie.Need-same-length-2
 same-length-2 c = search needs
 
 returns-2 : tie.Need-returns-2
 returns-2 c =
-    let at-if1 = c .before .before in
+    let at-form-of = c .before .before in
+    let at-if1 = at-form-of .before in
     let at-is-bad-size = at-if1 .before in
     let at-shared-slice-known = at-is-bad-size .before .before in
     let s = at-shared-slice-known .before .before in
     let known = at-shared-slice-known .shared-slice-known .given in
     let words = s .args .table .now in
     let bytes = s .args .image .now in
-    let wrong = decides-false (c .before .has-contents .result) (c .before .has-contents .ensures)
-    (not-true (c .before .has-contents .result) (c .if2 .taken)) in
     read-refused words bytes 12
     (read-malformed words bytes (sym (at-is-bad-size .is-bad-size .ensures) ∙ at-if1 .if1 .left)
-    (not-false _ (sym (wrong-malformed legible bytes (λ i. omega (arith, known i)) wrong)))) (omega arith)
+    (wrong-read bytes (at-form-of .form-of .ensures) (c .before .has-contents .result) (c .before .has-contents .ensures)
+    (λ i. omega (arith, known i)) (c .if2 .taken))) (omega arith)
 
 count-words-requires : tie.Need-count-words-requires
-count-words-requires c κs = record {
-  form = legible;
-  right = decides-true (c .before .has-contents .result)
-      (c .before .has-contents .ensures) (not-false (c .before .has-contents .result) (c .if2 .left));
-}
+count-words-requires c κs =
+    right-read _ (c .before .before .form-of .ensures) (c .before .has-contents .result) (c .before .has-contents .ensures)
+    (c .if2 .left)
 
 overfull-refusal-requires : tie.Need-overfull-refusal-requires
 overfull-refusal-requires c κs =
     let at-if2 = c .before .before in
     let at-has-contents = at-if2 .before in
-    record {
-      form = legible;
-      right = decides-true (at-has-contents .has-contents .result) (at-has-contents .has-contents .ensures)
-          (not-false (at-has-contents .has-contents .result) (at-if2 .if2 .left));
-    }
+    right-read _ (at-has-contents .before .form-of .ensures) (at-has-contents .has-contents .result)
+    (at-has-contents .has-contents .ensures) (at-if2 .if2 .left)
 
 same-length-3 : tie.Need-same-length-3
 same-length-3 c = search needs
@@ -74,27 +71,30 @@ same-length-3 c = search needs
 returns-3 : tie.Need-returns-3
 returns-3 c =
     let at-count-words = c .before .before in
-    let at-if1 = at-count-words .before .before .before in
+    let at-form-of = at-count-words .before .before .before in
+    let at-if1 = at-form-of .before in
     let at-is-bad-size = at-if1 .before in
     let s = at-is-bad-size .before .before .before .before in
     let words = s .args .table .now in
     let bytes = s .args .image .now in
     let many = subst (λ n. length words < n) (at-count-words .count-words .ensures) (c .before .if3 .taken) in
-    read-refused words bytes (c .overfull-refusal .result)
-    (read-overfull words bytes (sym (at-is-bad-size .is-bad-size .ensures) ∙ at-if1 .if1 .left) many
-    (c .overfull-refusal .result) (c .overfull-refusal .ensures))
-    (overfull-some (malformed product form bytes) (c .overfull-refusal .result) (c .overfull-refusal .ensures))
+    let refused = overfull-read words bytes (at-form-of .form-of .ensures)
+    (sym (at-is-bad-size .is-bad-size .ensures) ∙ at-if1 .if1 .left) many (c .overfull-refusal .result)
+    (c .overfull-refusal .ensures) in
+    read-refused words bytes (c .overfull-refusal .result) (refused .0) (refused .1)
 
 array-borrow-prefix-work : tie.Need-array-borrow-prefix-work
 array-borrow-prefix-work c =
-    let at-if1 = c .before .before .before .before .before in
+    let at-form-of = c .before .before .before .before .before in
+    let at-if1 = at-form-of .before in
     let at-is-bad-size = at-if1 .before in
     let s = at-is-bad-size .before .before .before .before in
     size-most (s .args .table .now) (sym (at-is-bad-size .is-bad-size .ensures) ∙ at-if1 .if1 .left)
 
 slice-aggregate-read-through : tie.Need-slice-aggregate-read-through
 slice-aggregate-read-through c =
-    let at-if1 = c .before .before .before .before .before .before in
+    let at-form-of = c .before .before .before .before .before .before in
+    let at-if1 = at-form-of .before in
     let at-is-bad-size = at-if1 .before in
     let s = at-is-bad-size .before .before .before .before in
     sym (length-take-le _ _ (size-most (s .args .table .now) (sym (at-is-bad-size .is-bad-size .ensures) ∙ at-if1 .if1 .left)))
@@ -105,18 +105,16 @@ read-through-requires c κs =
     let at-count-words = at-if3 .before in
     let at-if2 = at-count-words .before in
     let at-has-contents = at-if2 .before in
-    let at-if1 = at-has-contents .before in
+    let at-form-of = at-has-contents .before in
+    let at-if1 = at-form-of .before in
     let at-is-bad-size = at-if1 .before in
     let s = at-is-bad-size .before .before .before .before in
     let words = s .args .table .now in
     let sized = sym (at-is-bad-size .is-bad-size .ensures) ∙ at-if1 .if1 .left in
-    let right = decides-true (at-has-contents .has-contents .result) (at-has-contents .has-contents .ensures)
-    (not-false (at-has-contents .has-contents .result) (at-if2 .if2 .left)) in (
-      record {
-        contents = record { form = legible; right = right };
-        fits = subst (λ n. n ≤ length words) (at-count-words .count-words .ensures) (at-if3 .if3 .left);
-        size = sized;
-      },
+    let right = right-read _ (at-form-of .form-of .ensures) (at-has-contents .has-contents .result)
+    (at-has-contents .has-contents .ensures) (at-if2 .if2 .left) in (
+      fitting-read words (s .args .image .now) (at-form-of .form-of .ensures) sized right
+          (subst (λ n. n ≤ length words) (at-count-words .count-words .ensures) (at-if3 .if3 .left)),
       take-zeros (product .most) (length words) (size-most words sized),
     )
 
@@ -133,6 +131,7 @@ read-spec =
     is-bad-size-requires
     same-length
     returns
+    form-of-requires
     has-contents-requires
     same-length-2
     returns-2

@@ -63,6 +63,8 @@ meets-spec =
     (λ c. search needs)
     (λ c κs. let entry = c .before .before .before .before in
     search (needs, relied (now (entry .args .table)) _ _ (c .enum-told28 .given .1) (entry .pre .1)))
+    (λ c. search needs) (λ c κs. search needs)
+    (λ c. search needs)
     (λ c. let entry = c .before .before .before .before .before in
     rw (c .before .enum-told .given .1) (one-decides (entry .pre .0 .words) 1 (lit≤ tt) _ (c .all-meet .result)
     (c .all-meet .ensures)))
@@ -135,4 +137,9 @@ meets-spec =
     (c .all-meet21 .ensures)))
     (λ c. let entry = c .before .before .before .before .before in
     rw (c .before .enum-told28 .given .1) (pair-decides (entry .pre .0 .words) 6 (lit≤ tt) _ (c .all-meet22 .result)
-    (c .all-meet22 .ensures))))
+    (c .all-meet22 .ensures)))
+    (λ c. let entry = c .before .before .before .before .before in
+    rw (c .before .enum-told29 .given .1) (one-decides (entry .pre .0 .words) 11 (lit≤ tt) _ (c .all-meet23 .result)
+    (c .all-meet23 .ensures)))
+    (λ c. let entry = c .before .before .before .before in
+    absurd (relied (now (entry .args .table)) _ _ (c .enum-told30 .given .1) (entry .pre .1))))

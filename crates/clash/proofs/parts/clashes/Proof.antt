@@ -20,6 +20,9 @@ has-other-role-requires c κs = search needs
 value-clashes-requires : tie.Need-value-clashes-requires
 value-clashes-requires c κs = search needs
 
+has-two-holders-requires : tie.Need-has-two-holders-requires
+has-two-holders-requires c κs = search needs
+
 has-other-role-requires-2 : tie.Need-has-other-role-requires-2
 has-other-role-requires-2 c κs = search needs
 
@@ -45,7 +48,11 @@ returns-5 c = simp (c .before .match .keys5) (c .value-clashes .ensures)
 
 returns-6 : tie.Need-returns-6
 unfolding lookupClash
-returns-6 c =
+returns-6 c = simp (c .before .match .keys6) (c .has-two-holders .ensures)
+
+returns-7 : tie.Need-returns-7
+unfolding lookupClash
+returns-7 c =
     let kinds = c .before .match .rest in
     simp (
       ne-eqb _ _ (kinds .1),
@@ -53,6 +60,7 @@ returns-6 c =
       ne-eqb _ _ (kinds .0 .0 .1),
       ne-eqb _ _ (kinds .0 .0 .0 .1),
       ne-eqb _ _ (kinds .0 .0 .0 .0 .1),
+      ne-eqb _ _ (kinds .0 .0 .0 .0 .0 .1),
     ) (c .has-other-role2 .ensures)
 
 pub clashes-spec : {M : Type 1} → statement M
@@ -64,10 +72,12 @@ clashes-spec =
     property-link-clashes-requires
     has-other-role-requires
     value-clashes-requires
+    has-two-holders-requires
     has-other-role-requires-2
     returns
     returns-2
     returns-3
     returns-4
     returns-5
-    returns-6)
+    returns-6
+    returns-7)

@@ -1,6 +1,6 @@
--- `parts::value_clashes`: the subject, then the value. Assumes nothing.
+-- `parts::value_clashes`: the subject, then the value, then who has it. Assumes nothing.
 use borrow.Author.Needs.{needs}
-use Rattle.table.proofs.InTurn.{told, or-first, or-rest}
+use Rattle.table.proofs.InTurn.{told, or-first, or-second, or-rest}
 use Rattle.clash.proofs.parts.value_clashes.Statement.{statement}
 use Rattle.clash.proofs.parts.value_clashes.Tie as tie
 
@@ -14,8 +14,19 @@ is-no-value-requires : tie.Need-is-no-value-requires
 is-no-value-requires c κs = search needs
 
 returns-2 : tie.Need-returns-2
-returns-2 c = or-rest (told (c .before .before .has-other-role .ensures) (c .before .if1 .left)) (c .is-no-value .ensures)
+returns-2 c = or-second (c .before .before .before .has-other-role .ensures)
+    (or-first _ (told (c .before .is-no-value .ensures) (c .if2 .taken)))
+
+is-taken-requires : tie.Need-is-taken-requires
+is-taken-requires c κs = search needs
+
+returns-3 : tie.Need-returns-3
+returns-3 c =
+    let value = c .before in
+    let subject = value .before .before in
+    or-rest (told (subject .before .has-other-role .ensures) (subject .if1 .left))
+    (or-rest (told (value .before .is-no-value .ensures) (value .if2 .left)) (c .is-taken .ensures))
 
 pub value-clashes-spec : {M : Type 1} → statement M
 value-clashes-spec =
-    tie.close (tie.spec has-other-role-requires returns is-no-value-requires returns-2)
+    tie.close (tie.spec has-other-role-requires returns is-no-value-requires returns-2 is-taken-requires returns-3)

@@ -5,7 +5,7 @@ use lib.ListN.{List·getD-map}
 use borrow.Author.Needs.{needs}
 use Rattle.rules.specs.declared.Rule as code
 use Rattle.rules.specs.declared.Rule.the-variants.{R4, R5, R6, R7, R8, R9, R10, R11, R12, R13, R14, R15, R16, R17}
-use Rattle.rules.specs.declared.Rule.the-variants.{R18, R19, R20, R21, R22, R23, R24, R25, R26, R27, H1, H2, H3, H4}
+use Rattle.rules.specs.declared.Rule.the-variants.{R18, R19, R20, R21, R22, R23, R24, R25, R26, R27, H1, H2, H3, H4, E1, E2}
 use Rattle.rules.specs.RuleOf.{ruleOf}
 use Rattle.consistency.proofs.visit.rule_at.Statement.{statement}
 use Rattle.consistency.proofs.visit.rule_at.Tie as tie
@@ -16,7 +16,8 @@ order =
     R4 ∷ R5 ∷ R6 ∷ R7 ∷ R8 ∷ R9 ∷ R10 ∷
     R11 ∷ R12 ∷ R13 ∷ R14 ∷ R15 ∷ R16 ∷ R17 ∷
     R18 ∷ R19 ∷ R20 ∷ R21 ∷ R22 ∷ R23 ∷ R24 ∷
-    R25 ∷ R26 ∷ R27 ∷ H1 ∷ H2 ∷ H3 ∷ H4 ∷ []
+    R25 ∷ R26 ∷ R27 ∷ H1 ∷ H2 ∷ H3 ∷ H4 ∷
+    E1 ∷ E2 ∷ []
 
 array-copy-out-result : tie.Need-array-copy-out-result
 array-copy-out-result c = search needs

@@ -1,23 +1,22 @@
--- `visit::visit` meets its contract. The loop's invariant: `at` is a place of the rules or their end, and each rule before it is
--- met. The measure is the number of rules left. Assumes nothing.
+-- `visit::visit` meets its contract. The loop's invariant: `at` is a place of the rules before E2 or their end, and each rule
+-- before it is met. The measure is the number of rules left. Assumes nothing.
 use Prim.Native.Nat.{_-_, _≤_}
 use native.Mathlib.Omega.{arith}
-use lib.ListN.{length}
 use borrow.Author.Needs.{needs}
 use denote.Ref.{now}
 use Rattle.rdfs.specs.Rules.{Meets}
 use Rattle.spans.specs.Graphs.{graphOf}
-use Rattle.consistency.specs.Order.{rulesInOrder, ruleAt}
+use Rattle.consistency.specs.Order.{rulesInOrder, ruleAt, indexedCount}
 use Rattle.spans.proofs.Decided.{decided-met, decided-broken}
-use Rattle.consistency.proofs.Visiting.{MetBefore, visit-none, visit-more, visit-stops, visit-earlier}
+use Rattle.consistency.proofs.Visiting.{MetBefore, visit-none, visit-more, visit-earlier}
 use Rattle.consistency.proofs.visit.visit.Statement.{statement}
 use Rattle.consistency.proofs.visit.visit.Tie as tie
 
 abbrev Inv-loop : tie.InvT-loop
-Inv-loop table index at₀ at = (at ≤ length rulesInOrder) × MetBefore (graphOf table) rulesInOrder at
+Inv-loop table index at₀ at = (at ≤ indexedCount) × MetBefore (graphOf table) rulesInOrder at
 
 abbrev μ-loop : tie.MeasureT-loop
-μ-loop table index at₀ at = length rulesInOrder - at
+μ-loop table index at₀ at = indexedCount - at
 
 loop-holds : tie.Need-loop-holds Inv-loop μ-loop
 loop-holds c = (omega arith, visit-none (graphOf (now (c .before .before .args .table))) rulesInOrder)
@@ -41,8 +40,11 @@ returns c =
     let G = graphOf (now (entry .args .table)) in
     let i = at-loop .loop .at in
     let answer = rw (c .before .before .rule-at .ensures) at (c .before .meets .ensures) in
-    visit-stops G rulesInOrder i (at-loop .loop .inv .0) (at-loop .loop .inv .1)
-    (λ h. decided-broken (c .before .meets .result) (Meets G (ruleAt rulesInOrder i)) answer (c .if1 .taken))
+    record {
+      within = at-loop .loop .inv .0;
+      before = at-loop .loop .inv .1;
+      broken = λ h. decided-broken (c .before .meets .result) (Meets G (ruleAt rulesInOrder i)) answer (c .if1 .taken);
+    }
 
 add-at : tie.Need-add-at Inv-loop μ-loop
 add-at c = omega arith
@@ -64,9 +66,11 @@ loop-again c =
 
 returns-2 : tie.Need-returns-2 Inv-loop μ-loop
 returns-2 c =
-    let entry = c .before .before .before .before in
-    visit-stops (graphOf (now (entry .args .table))) rulesInOrder (c .before .loop .at) (c .before .loop .inv .0)
-    (c .before .loop .inv .1) (λ h. absurd (omega (arith, h, c .loop-test .left)))
+    record {
+      within = c .before .loop .inv .0;
+      before = c .before .loop .inv .1;
+      broken = λ h. absurd (omega (arith, h, c .loop-test .left));
+    }
 
 pub visit-spec : {M : Type 1} → statement M
 visit-spec =

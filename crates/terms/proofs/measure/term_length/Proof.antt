@@ -50,6 +50,9 @@ enum-told-7 c = search needs
 enum-told-8 : tie.Need-enum-told-8
 enum-told-8 c = search needs
 
+enum-told-9 : tie.Need-enum-told-9
+enum-told-9 c = search needs
+
 returns : tie.Need-returns
 returns c = c .id-length .ensures ∙ sym (ap (λ t. length (spelt t)) (c .before .before .term .given .1))
 
@@ -82,6 +85,9 @@ returns-9 c = search needs
 returns-10 : tie.Need-returns-10
 returns-10 c = search needs
 
+returns-11 : tie.Need-returns-11
+returns-11 c = search needs
+
 pub term-length-spec : {M : Type 1} → statement M
 term-length-spec =
     tie.close
@@ -99,6 +105,7 @@ term-length-spec =
     enum-told-6
     enum-told-7
     enum-told-8
+    enum-told-9
     returns
     returns-2
     returns-3
@@ -108,4 +115,5 @@ term-length-spec =
     returns-7
     returns-8
     returns-9
-    returns-10)
+    returns-10
+    returns-11)

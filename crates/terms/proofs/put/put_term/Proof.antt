@@ -36,6 +36,9 @@ put-term-spec =
     Calls.slice-aggregate-put-rdfs-5
     Calls.put-rdfs-requires-5
     Calls.enum-told-8
+    Calls.slice-aggregate-put-piece
+    Calls.put-piece-requires
+    Calls.enum-told-9
     Ends.same-length
     Ends.returns
     Ends.same-length-2
@@ -54,4 +57,6 @@ put-term-spec =
     Ends.returns-8
     Ends.same-length-9
     Ends.returns-9
-    Ends.returns-10)
+    Ends.same-length-10
+    Ends.returns-10
+    Ends.returns-11)

@@ -4,13 +4,13 @@ use mathlib.Core.List.{List, [], _∷_}
 use native.Mathlib.Omega.{arith}
 use borrow.Author.Needs.{needs}
 use Rattle.table.proofs.TestAnswers.{decides-false}
-use Rattle.terms.proofs.Spelling.{idFront, literalFront}
-use Rattle.terms.proofs.TermReading.{rdfFront, rdfsFront, read-nothing, behind-within, behind-read}
+use Rattle.terms.proofs.Spelling.{literalFront}
+use Rattle.terms.proofs.TermReading.{urnFront, rdfFront, rdfsFront, read-nothing, behind-within, behind-read}
 use Rattle.terms.proofs.read.term_at.Statement.{statement}
 use Rattle.terms.proofs.read.term_at.Tie as tie
 
 abbrev fronts : List (List ℕ)
-fronts = idFront ∷ rdfsFront ∷ rdfFront ∷ literalFront ∷ []
+fronts = urnFront ∷ rdfsFront ∷ rdfFront ∷ literalFront ∷ []
 
 slice-aggregate-has-at : tie.Need-slice-aggregate-has-at
 slice-aggregate-has-at c = search needs
@@ -18,19 +18,19 @@ slice-aggregate-has-at c = search needs
 has-at-requires : tie.Need-has-at-requires
 has-at-requires c κs = search needs
 
-add-id-at : tie.Need-add-id-at
-add-id-at c = search needs
+add-urn-at : tie.Need-add-urn-at
+add-urn-at c = search needs
 
-id-at-requires : tie.Need-id-at-requires
-id-at-requires c κs =
+urn-at-requires : tie.Need-urn-at-requires
+urn-at-requires c κs =
     let a = c .before .before .before .before .args in
-    behind-within (a .text .now) (a .at) idFront (c .before .has-at .ensures) (c .if1 .taken) (omega arith)
+    behind-within (a .text .now) (a .at) urnFront (c .before .has-at .ensures) (c .if1 .taken) (omega arith)
 
 returns : tie.Need-returns
 returns c =
     let front = c .before in
     let a = front .before .before .before .before .args in
-    behind-read (a .text .now) (a .at) idFront (front .before .has-at .ensures) (front .if1 .taken) _ (c .id-at .ensures)
+    behind-read (a .text .now) (a .at) urnFront (front .before .has-at .ensures) (front .if1 .taken) [] _ (c .urn-at .ensures)
 
 slice-aggregate-has-at-2 : tie.Need-slice-aggregate-has-at-2
 slice-aggregate-has-at-2 c = search needs
@@ -52,7 +52,7 @@ returns-2 c =
     let front = c .before in
     let first = front .before .before .before in
     let a = first .before .before .before .before .args in
-    behind-read (a .text .now) (a .at) rdfsFront (front .before .has-at2 .ensures) (front .if2 .taken) _ (c .rdfs-at .ensures)
+    behind-read (a .text .now) (a .at) rdfsFront (front .before .has-at2 .ensures) (front .if2 .taken) [] _ (c .rdfs-at .ensures)
 
 slice-aggregate-has-at-3 : tie.Need-slice-aggregate-has-at-3
 slice-aggregate-has-at-3 c = search needs
@@ -76,7 +76,7 @@ returns-3 c =
     let second = front .before .before .before in
     let first = second .before .before .before in
     let a = first .before .before .before .before .args in
-    behind-read (a .text .now) (a .at) rdfFront (front .before .has-at3 .ensures) (front .if3 .taken) _ (c .rdf-at .ensures)
+    behind-read (a .text .now) (a .at) rdfFront (front .before .has-at3 .ensures) (front .if3 .taken) [] _ (c .rdf-at .ensures)
 
 slice-aggregate-has-at-4 : tie.Need-slice-aggregate-has-at-4
 slice-aggregate-has-at-4 c = search needs
@@ -102,7 +102,7 @@ returns-4 c =
     let second = third .before .before .before in
     let first = second .before .before .before in
     let a = first .before .before .before .before .args in
-    behind-read (a .text .now) (a .at) literalFront (front .before .has-at4 .ensures) (front .if4 .taken) _
+    behind-read (a .text .now) (a .at) literalFront (front .before .has-at4 .ensures) (front .if4 .taken) [] _
     (c .literal-at .ensures)
 
 returns-5 : tie.Need-returns-5
@@ -127,8 +127,8 @@ term-at-spec =
     (tie.spec
     slice-aggregate-has-at
     has-at-requires
-    add-id-at
-    id-at-requires
+    add-urn-at
+    urn-at-requires
     returns
     slice-aggregate-has-at-2
     has-at-requires-2

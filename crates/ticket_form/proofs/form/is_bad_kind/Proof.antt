@@ -33,10 +33,14 @@ returns-8 : tie.Need-returns-8
 returns-8 c = simp (sym (c .before .wide .ensures) ∙ c .match .keys8)
 
 returns-9 : tie.Need-returns-9
-returns-9 c =
+returns-9 c = simp (sym (c .before .wide .ensures) ∙ c .match .keys9)
+
+returns-10 : tie.Need-returns-10
+returns-10 c =
     let w = c .before .wide .ensures in
     let n = c .match .rest in
     simp (
+      wide-not w (n .0 .0 .0 .0 .0 .0 .0 .0 .1),
       wide-not w (n .0 .0 .0 .0 .0 .0 .0 .1),
       wide-not w (n .0 .0 .0 .0 .0 .0 .1),
       wide-not w (n .0 .0 .0 .0 .0 .1),
@@ -60,4 +64,5 @@ is-bad-kind-spec =
     returns-6
     returns-7
     returns-8
-    returns-9)
+    returns-9
+    returns-10)

@@ -2,7 +2,7 @@
 use mathlib.Core.Path.{_≡_, sym, ap, subst, _∙_}
 use borrow.Author.Needs.{needs}
 use lib.Dec.{T}
-use Rattle.triple_form.specs.FactTerms.{linkedKind}
+use Rattle.triple_form.specs.FactKinds.{linkedKind}
 use Rattle.triple_form.proofs.TermParts.{kindFrom, wordFrom}
 use Rattle.triple_form.proofs.FactReading.{terms-digits, fact-told, fact-none}
 use Rattle.triple_form.proofs.fact.fact_of.Statement.{statement}

@@ -39,11 +39,17 @@ returns-3 c =
 returns-4 : tie.Need-returns-4
 returns-4 c =
     let s = c .before .before .before in
+    let is = sym (c .before .before .kind-of .ensures) ∙ c .match .keys4 in
+    sym (ap (object (s .args .literal)) (fact-of-kind (s .args .word) 11 is))
+
+returns-5 : tie.Need-returns-5
+returns-5 c =
+    let s = c .before .before .before in
     let is = c .before .before .kind-of .ensures in
     let kinds = c .match .rest in
     ap Id (c .before .second-of .ensures)
-    ∙ sym (word-object (s .args .word) (s .pre .0) (s .pre .1) (s .args .literal) (λ e. kinds .0 .0 .1 (is ∙ e))
-    (λ e. kinds .0 .1 (is ∙ e)) (λ e. kinds .1 (is ∙ e)))
+    ∙ sym (word-object (s .args .word) (s .pre .0) (s .pre .1) (s .args .literal) (λ e. kinds .0 .0 .0 .1 (is ∙ e))
+    (λ e. kinds .0 .0 .1 (is ∙ e)) (λ e. kinds .0 .1 (is ∙ e)) (λ e. kinds .1 (is ∙ e)))
 
 pub object-of-spec : {M : Type 1} → statement M
 object-of-spec =
@@ -55,4 +61,5 @@ object-of-spec =
     returns
     returns-2
     returns-3
-    returns-4)
+    returns-4
+    returns-5)

@@ -105,3 +105,14 @@ put-rdfs-requires-5 c κs =
 
 pub enum-told-8 : tie.Need-enum-told-8
 enum-told-8 c = search needs
+
+pub slice-aggregate-put-piece : tie.Need-slice-aggregate-put-piece
+slice-aggregate-put-piece c = search needs
+
+pub put-piece-requires : tie.Need-put-piece-requires
+put-piece-requires c κs =
+    let s = c .before .before .before .before .before in
+    room-told (now (s .args .output)) (s .args .at) (c .before .before .enum-told8 .given .1) (s .pre)
+
+pub enum-told-9 : tie.Need-enum-told-9
+enum-told-9 c = search needs

@@ -76,5 +76,13 @@ returns-9 c =
     let call = c .before .before in
     puts-told (call .before .before .before .enum-told7 .given .1) (call .put-rdfs5 .ensures)
 
+pub same-length-10 : tie.Need-same-length-10
+same-length-10 c = search needs
+
 pub returns-10 : tie.Need-returns-10
-returns-10 c = puts-told (c .enum-told8 .given .1) (puts-none _ _)
+returns-10 c =
+    let call = c .before .before in
+    puts-told (call .before .before .before .enum-told8 .given .1) (call .put-piece .ensures)
+
+pub returns-11 : tie.Need-returns-11
+returns-11 c = puts-told (c .enum-told9 .given .1) (puts-none _ _)

@@ -1,0 +1,3 @@
+pub mod Looked
+pub mod Holders
+pub mod Above

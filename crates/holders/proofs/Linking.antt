@@ -1,0 +1,115 @@
+-- Links while they are laid from the first value on. Assumes nothing.
+use Prim.Native.Nat.{ℕ, _+_, _≤_, _<_}
+use mathlib.Core.Path.{_≡_, refl, sym, ap, subst, _∙_}
+use mathlib.Core.Logic.{_⊎_, inl, inr, ⊎-elim}
+use mathlib.Core.List.{List}
+use native.Mathlib.Nat.{eq-or-lt-of-le}
+use native.Mathlib.Omega.{arith}
+use lib.ListN.{length, set, length-set}
+use Rattle.rdfs.specs.Numbers.{product}
+use Rattle.table.specs.Parts.{thirdOf, wordOf}
+use Rattle.spans.specs.Spans.{at, Below}
+use Rattle.spans.proofs.SpanPlaces.{split}
+use Rattle.spans.proofs.Entered.{Stored, stored}
+use Rattle.spans.proofs.Passed.{Passed, passed-none, passed-more}
+use Rattle.holders.specs.Values.{ValueAt}
+use Rattle.holders.specs.Links.{LinkTo, Linkable, NoneLinked, Linked}
+
+-- Nothing is asked of the values but their kind.
+abbrev Any : ℕ → ℕ → ℕ → Type 0
+Any x y z = Unit {0}
+
+-- The values before place i are linked, and those left stand from there up to `end`.
+pub record Linking (t latest before : List ℕ) (end i : ℕ) : Type 0 where
+  pub linkable : Linkable t latest before
+  pub within : i ≤ length t
+  pub values : Passed t 10 Any end i
+  pub last : (z : ℕ) → LinkTo t z i (at latest z)
+  pub next : (z j : ℕ) → j < i → ValueAt t z j → LinkTo t z j (at before j)
+
+-- No value stands before the first.
+link-none : (t : List ℕ) (z i : ℕ) → ((j : ℕ) → j < i → ValueAt t z j → ⊥) → LinkTo t z i 0
+link-none t z i n = record { within = omega arith; here = λ h. absurd (omega arith); past = λ j a b v. n j b v }
+
+-- The value itself is the last before the next place.
+link-here : (t : List ℕ) (z i : ℕ) → ValueAt t z i → LinkTo t z (i + 1) (i + 1)
+link-here t z i v = record {
+  within = omega arith;
+  here = λ h. subst (ValueAt t z) (omega arith) v;
+  past = λ j a b w. absurd (omega arith);
+}
+
+-- Places with no value of the property move no link.
+link-on : {t : List ℕ} {z i k : ℕ} (end : ℕ) → i ≤ end → ((j : ℕ) → i ≤ j → j < end → ValueAt t z j → ⊥) → LinkTo t z i k
+    → LinkTo t z end k
+link-on {i = i} end h n L = record {
+  within = omega (arith, L .within);
+  here = L .here;
+  past = λ j a b v. ⊎-elim (λ q. L .past j a q v) (λ q. n j q b v) (split j i);
+}
+
+pub linking-none : {t latest before : List ℕ} → Linkable t latest before → NoneLinked latest → (i end v w : ℕ)
+    → v ≡ wordOf 10 0 0 0 → w ≡ wordOf 11 0 0 0 → Below t v i → Below t w end → Linking t latest before end i
+linking-none {t} L Z i end v w p q B C = record {
+  linkable = L;
+  within = B .within;
+  values = passed-none 10 Any i end v w p q B C;
+  last = λ z. rw (Z z) (link-none t z i (early z));
+  next = λ z j a u. absurd (early z j a u);
+}
+  where
+    early : (z j : ℕ) → j < i → ValueAt t z j → ⊥
+    early z j a (l, k, e) = omega (arith, B .before j a)
+
+module _ {t latest before : List ℕ} {end i : ℕ} (L : Linking t latest before end i) where
+  pub linking-place : i < end → i < length t
+  linking-place h = omega (arith, L .values .within)
+
+  pub linking-few : i < end → i < product .most
+  linking-few h = omega (arith, linking-place h, L .linkable .few)
+
+  -- The property of the value has a link, and so has its place.
+  pub third-within : i < end → thirdOf (at t i) < length latest
+  third-within h = omega (arith, L .linkable .ids, L .linkable .words .facts i (linking-place h) .allowed .third)
+
+  pub place-within : i < end → i < length before
+  place-within h = omega (arith, L .linkable .places, linking-few h)
+
+  pub linking-more : i < end
+      → Linking t (set latest (thirdOf (at t i)) (i + 1)) (set before i (at latest (thirdOf (at t i)))) end (i + 1)
+  linking-more h = record {
+    linkable = record {
+      words = L .linkable .words;
+      few = L .linkable .few;
+      ids = length-set latest _ _ ∙ L .linkable .ids;
+      places = length-set before _ _ ∙ L .linkable .places;
+    };
+    within = omega (arith, linking-place h);
+    values = passed-more 10 Any i end (L .values) h tt;
+    last = λ z. last z (stored latest c (i + 1) z (third-within h));
+    next = λ z j a v. next z j a v (stored before i (at latest c) j (place-within h));
+  }
+    where
+      c : ℕ
+      c = thirdOf (at t i)
+
+      is-value : ValueAt t c i
+      is-value = (linking-place h, L .values .left i (omega arith) h, refl)
+
+      last : (z : ℕ) → Stored latest c (i + 1) z → LinkTo t z (i + 1) (at (set latest c (i + 1)) z)
+      last z (inl (e, f)) = rw (f, e) (link-here t c i is-value)
+      last z (inr (n, f)) = rw f (link-on (i + 1) (omega arith) (λ j a b (l, k, e). n (sym e ∙ ap (λ (x : ℕ). thirdOf (at t x))
+          (omega arith))) (L .last z))
+
+      next : (z j : ℕ) → j < i + 1 → ValueAt t z j → Stored before i (at latest c) j
+          → LinkTo t z j (at (set before i (at latest c)) j)
+      next z j a (l, k, e) (inl (q, f)) = rw (f, q) (subst (λ x. LinkTo t x i (at latest c))
+          (sym (ap (λ (x : ℕ). thirdOf (at t x)) q) ∙ e) (L .last c))
+      next z j a v (inr (n, f)) = rw f (L .next z j (⊎-elim (λ q. absurd (n q)) (λ q. q) (eq-or-lt-of-le (omega arith))) v)
+
+  pub linking-end : end ≤ i → Linked t latest before
+  linking-end h = record {
+    linkable = L .linkable;
+    last = λ z. link-on (length t) (L .within) (λ j a b (l, k, e). L .values .none j (omega arith) l k) (L .last z);
+    next = λ z j v. ⊎-elim (λ q. L .next z j q v) (λ q. absurd (L .values .none j (omega arith) (v .0) (v .1))) (split j i);
+  }
