@@ -1,18 +1,24 @@
-//! The plant editor: members are entered as soon as their classes stand, and the classes are linked late. The
-//! order does not matter; every member is in every class above its own, and the graph is the same as if the
-//! tree had been drawn first, which makes the classes too. The plant's people speak of names, not of ids.
+//! The plant editor: members are entered as soon as their classes stand, the classes are linked late, and
+//! that a property is exclusive is said last. The order does not matter; every member is in every class above
+//! its own, and the graph is the same as if the tree had been drawn first, which makes the classes too. The
+//! plant's people speak of names, not of ids.
 
 use std::error::Error;
-use vimelosa_host::{Graph, Names};
+use vimelosa_host::{Graph, Names, Refusal};
 
-const NAMES: &str = "2\tequipment\n3\tdrive\n4\tmotor\n20\tm1\n21\tm2\n";
+const NAMES: &str = "2\tequipment\n3\tdrive\n4\tmotor\n10\tturns\n20\tm1\n21\tm2\n22\tfan\n";
 const CLASSES: [&str; 2] = ["insert class drive", "insert class motor"];
 const MEMBERS: [&str; 2] = ["insert member m1 motor", "insert member m2 drive"];
 const LINKS: [&str; 2] = ["insert subclass motor drive", "insert subclass drive equipment"];
+const PROPERTY: [&str; 1] = ["insert property turns drive equipment"];
+const VALUE: [&str; 1] = ["insert value m1 fan turns"];
 
-fn graph_of(names: &Names, lines: &[&str]) -> Result<Graph, Box<dyn Error>> {
+/// No two drives turn one machine.
+const EXCLUSIVE: [&str; 1] = ["insert exclusive turns"];
+
+fn graph_of(names: &Names, lines: &[&[&str]]) -> Result<Graph, Box<dyn Error>> {
     let mut graph = Graph::fresh();
-    for line in lines {
+    for line in lines.concat() {
         let ticket = names.read_ticket(line)?;
         let change = graph.apply(ticket)?;
         println!("{}: {} facts added", names.show(ticket), change.added);
@@ -28,13 +34,17 @@ fn members<'a>(graph: &Graph, names: &'a Names, class: &str) -> Vec<&'a str> {
 
 fn main() -> Result<(), Box<dyn Error>> {
     let names: Names = NAMES.parse()?;
-    let late = graph_of(&names, &[CLASSES, MEMBERS, LINKS].concat())?;
-    let early = graph_of(&names, &[LINKS, MEMBERS].concat())?;
+    let mut late = graph_of(&names, &[&CLASSES, &MEMBERS, &PROPERTY, &VALUE, &LINKS, &EXCLUSIVE])?;
+    let early = graph_of(&names, &[&LINKS, &PROPERTY, &EXCLUSIVE, &MEMBERS, &VALUE])?;
     assert_eq!(late, early);
-    println!("links drawn late or early: the same {} facts", late.count_facts());
+    println!("drawn late or early: the same {} facts", late.count_facts());
 
-    assert_eq!(members(&late, &names, "equipment"), ["m1", "m2"]);
+    assert_eq!(members(&late, &names, "equipment"), ["m1", "m2", "fan"]);
     assert_eq!(members(&late, &names, "motor"), ["m1"]);
+
+    let second = names.read_ticket("insert value m2 fan turns")?;
+    assert_eq!(late.apply(second), Err(Refusal::Clashing));
+    println!("{}: {}", names.show(second), Refusal::Clashing);
     Ok(())
 }
 

@@ -5,9 +5,11 @@
  * unused ones 0. Ids are chosen by the caller, but 0 is Resource, the class of everything, and 1 is the mark
  * Literal, which is a range and names nothing else. A text is a graph in lines of N-Triples.
  *
- * Image. Byte 0 is 1 and byte 1 is 10. Then each kind from 1 to 10 has an entry of six bytes: the kind; the
+ * Image. Byte 0 is 1 and byte 1 is 11. Then each kind from 1 to 11 has an entry of six bytes: the kind; the
  * bytes per fact; the place in the image where its facts start, and how many there are, both 16 bits with the
- * low byte first. The facts follow from byte 62 on, by kind, ascending, each as its ids.
+ * low byte first. The facts follow from byte 68 on, by kind, ascending, each as its ids. An image of ten
+ * entries, with 10 as byte 1 and its facts from byte 62 on, is read as well: it has no facts of kind 11. The
+ * images that calls write have eleven entries.
  *
  * Text. A text is lines of N-Triples, in a profile: three terms with a blank after each, then a full stop and
  * a newline (byte 10), and nothing else anywhere. With a, b, c for the ids of a fact, the terms are
@@ -19,6 +21,7 @@
  *   kind 8      a  rdfs:range          b
  *   kind 9      a  rdf:type            b
  *   kind 10     a  c                   b
+ *   kind 11     a  rdf:type            <urn:mark:excl>
  * where id n, from 2 to 255, is <urn:id:n>, id 0 is rdfs:Resource, and 1 as a range is rdfs:Literal. If b of
  * kind 10 is a literal n, it is "n". Numbers are decimal, without leading zeros. rdf: and rdfs: are short for
  * http://www.w3.org/1999/02/22-rdf-syntax-ns# and http://www.w3.org/2000/01/rdf-schema# here; in the text
@@ -54,7 +57,7 @@ extern "C" {
 #endif
 
 /* No image that a call accepts or writes has more bytes: an output of so many is never too short. */
-#define VIMELOSA_LONGEST_IMAGE 6206
+#define VIMELOSA_LONGEST_IMAGE 6212
 
 /* A graph has at most so many facts. */
 #define VIMELOSA_MOST_FACTS 2048
@@ -71,10 +74,10 @@ extern "C" {
 
 /* The image to start from, of a graph that has the class Resource alone:
  * const uint8_t fresh[] = VIMELOSA_FRESH_IMAGE; */
-#define VIMELOSA_FRESH_IMAGE { 1, 10, \
-    1, 1, 62, 0, 1, 0,  2, 1, 63, 0, 0, 0,  3, 1, 63, 0, 0, 0,  4, 1, 63, 0, 0, 0,  5, 2, 63, 0, 0, 0, \
-    6, 2, 63, 0, 0, 0,  7, 2, 63, 0, 0, 0,  8, 2, 63, 0, 0, 0,  9, 2, 63, 0, 0, 0,  10, 3, 63, 0, 0, 0, \
-    0 }
+#define VIMELOSA_FRESH_IMAGE { 1, 11, \
+    1, 1, 68, 0, 1, 0,  2, 1, 69, 0, 0, 0,  3, 1, 69, 0, 0, 0,  4, 1, 69, 0, 0, 0,  5, 2, 69, 0, 0, 0, \
+    6, 2, 69, 0, 0, 0,  7, 2, 69, 0, 0, 0,  8, 2, 69, 0, 0, 0,  9, 2, 69, 0, 0, 0,  10, 3, 69, 0, 0, 0, \
+    11, 1, 69, 0, 0, 0,  0 }
 
 /* The operations of tickets. */
 enum vimelosa_operation {
@@ -104,7 +107,10 @@ enum vimelosa_kind {
      * insert a class, a subclass or a property make theirs. */
     VIMELOSA_MEMBER = 9,
     /* Individual a has the value b, an individual or a literal, for property c. */
-    VIMELOSA_VALUE = 10
+    VIMELOSA_VALUE = 10,
+    /* Property a is exclusive: no two individuals have the same value for it. Inserting it for a property of
+     * which a value has two individuals clashes, and so does, later, whatever would give a value a second. */
+    VIMELOSA_EXCLUSIVE = 11
 };
 
 /* The refusals. 1 and 2 are of calls on tables of words, which this interface does not have; they are here so
@@ -120,15 +126,17 @@ enum vimelosa_refusal {
     VIMELOSA_BAD_LENGTH = 4,
     /* The ticket's operation is neither 1 nor 2. */
     VIMELOSA_BAD_OPERATION = 5,
-    /* The ticket's kind is not 1 to 10, or it is 7 or 8, which are no tickets. */
+    /* The ticket's kind is not 1 to 11, or it is 7 or 8, which are no tickets. */
     VIMELOSA_BAD_KIND = 6,
     /* An unused byte of the ticket is not 0, or id 1 stands elsewhere than as the range of a new property. */
     VIMELOSA_BAD_IDS = 7,
     /* The ticket deletes Resource, or a link or a membership that leads to it. */
     VIMELOSA_GUARDED = 8,
-    /* The ticket inserts a link of properties, or a value, with a property that the graph does not have. */
+    /* The ticket inserts a link of properties or a value with a property that the graph does not have, or
+     * makes such a property exclusive. */
     VIMELOSA_UNKNOWN_PROPERTY = 9,
-    /* No consistent graph holds the graph and what the ticket inserts. */
+    /* No consistent graph holds the graph and what the ticket inserts; with an exclusive property, where a
+     * value would have two individuals for it. */
     VIMELOSA_CLASHING = 10,
     /* The new graph, or in reading the image's or the text's, has more than 2,048 facts. */
     VIMELOSA_TOO_MANY = 11,
@@ -237,8 +245,9 @@ static inline size_t vimelosa_text_length(uint64_t result) {
 }
 
 /* Of vimelosa_check and vimelosa_read_triples, where the answer is 3: the place, counted from 1, of the first
- * rule that the graph breaks. Rules 4 to 27 have places 1 to 24, H1 to H4 places 25 to 28. For other answers
- * it is 0. */
+ * rule that the graph breaks. Rules 4 to 27 have places 1 to 24, H1 to H4 places 25 to 28, and the two of
+ * kind 11 come last: E1, that a is a property, has place 29, E2, that no value has two individuals, place 30.
+ * For other answers it is 0. */
 static inline uint16_t vimelosa_rule_place(uint64_t result) {
     return (uint16_t)(result >> 16 & 0xffff);
 }

@@ -41,13 +41,13 @@ pub struct AppliedList {
 /// use vimelosa_host::{apply_ticket, Graph, Refusal};
 ///
 /// let fresh = Graph::fresh();
-/// let mut output = [0; 66];
+/// let mut output = [0; 72];
 /// let applied = apply_ticket(fresh.image(), &[1, 1, 2, 0, 0], &mut output)?;
-/// assert_eq!((applied.change.added, applied.length), (2, 66));
+/// assert_eq!((applied.change.added, applied.length), (2, 72));
 ///
-/// let short = &mut output[..65];
+/// let short = &mut output[..71];
 /// let refused = apply_ticket(fresh.image(), &[1, 1, 2, 0, 0], short);
-/// assert_eq!(refused, Err(Refusal::ShortOutput { needed: 66 }));
+/// assert_eq!(refused, Err(Refusal::ShortOutput { needed: 72 }));
 /// assert_eq!(apply_ticket(fresh.image(), &[1, 1, 2], short), Err(Refusal::BadLength));
 /// # Ok::<(), Refusal>(())
 /// ```
@@ -79,7 +79,7 @@ pub fn apply_ticket(image: &[u8], ticket: &[u8], output: &mut [u8]) -> Result<Ap
 /// let (mut answers, mut output) = ([0; 2], [0; LONGEST_IMAGE]);
 /// let tickets = [1, 1, 2, 0, 0, 1, 9, 2, 0, 0];
 /// let applied = apply_list(fresh.image(), &tickets, &mut answers, &mut output)?;
-/// assert_eq!((applied.accepted, applied.refused, applied.length), (1, 1, 66));
+/// assert_eq!((applied.accepted, applied.refused, applied.length), (1, 1, 72));
 /// assert_eq!(answers, [0, 10]);
 ///
 /// let few = apply_list(fresh.image(), &tickets, &mut answers[..1], &mut output);
@@ -119,7 +119,7 @@ pub fn apply_list(
 /// assert_eq!(check_image(&image[1..]), Err(Refusal::Malformed));
 ///
 /// // The last byte is the literal. With id 0 it would be Resource, which is a class.
-/// image[63] = 0;
+/// image[69] = 0;
 /// assert_eq!(check_image(&image), Err(Refusal::Inconsistent { rule: Rule::H2 }));
 /// # Ok::<(), Refusal>(())
 /// ```
@@ -155,7 +155,7 @@ pub(crate) fn broken_rule(image: &[u8]) -> Rule {
 }
 
 pub(crate) fn rule_at(place: u16) -> Rule {
-    Rule::try_from(place).unwrap_or_else(|_| unreachable!("a rule has a place from 1 to 28, not {place}"))
+    Rule::try_from(place).unwrap_or_else(|_| unreachable!("a rule has a place from 1 to 30, not {place}"))
 }
 
 /// The length of the image that a call refused with 13 would write, by the same call with room for any.

@@ -19,7 +19,7 @@ impl Ticket {
         Ticket::of(DELETE, Kind::Class, [class, 0, 0])
     }
 
-    /// Deletes a property, with its links and values.
+    /// Deletes a property, with its links and values; it is then not exclusive either.
     ///
     /// ```
     /// use vimelosa_host::{Graph, Range, Refusal, Ticket};
@@ -121,5 +121,23 @@ impl Ticket {
     /// ```
     pub fn delete_value(individual: u8, value: u8, property: u8) -> Ticket {
         Ticket::of(DELETE, Kind::Value, [individual, value, property])
+    }
+
+    /// Makes a property one that is not exclusive. Nothing else changes.
+    ///
+    /// ```
+    /// use vimelosa_host::{Change, Graph, Range, Refusal, Ticket};
+    /// let mut graph = Graph::fresh();
+    /// graph.apply(Ticket::insert_property(5, 2, Range::Literal))?;
+    /// graph.apply(Ticket::insert_exclusive(5))?;
+    /// graph.apply(Ticket::insert_value(4, 7, 5))?;
+    /// assert_eq!(graph.apply(Ticket::insert_value(6, 7, 5)), Err(Refusal::Clashing));
+    /// assert_eq!(graph.apply(Ticket::delete_exclusive(5)), Ok(Change { added: 0, removed: 1 }));
+    /// graph.apply(Ticket::insert_value(6, 7, 5))?;
+    /// assert_eq!(graph.apply(Ticket::insert_exclusive(5)), Err(Refusal::Clashing));
+    /// # Ok::<(), Refusal>(())
+    /// ```
+    pub fn delete_exclusive(property: u8) -> Ticket {
+        Ticket::of(DELETE, Kind::Exclusive, [property, 0, 0])
     }
 }

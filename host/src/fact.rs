@@ -62,6 +62,8 @@ pub enum Fact {
         /// The property, c.
         property: u8,
     },
+    /// The property is exclusive: no two individuals have the same value for it.
+    Exclusive(u8),
 }
 
 impl Fact {
@@ -83,10 +85,11 @@ impl Fact {
             Fact::Range { .. } => Kind::Range,
             Fact::Member { .. } => Kind::Member,
             Fact::Value { .. } => Kind::Value,
+            Fact::Exclusive(_) => Kind::Exclusive,
         }
     }
 
-    /// The fact's ids as document 01 writes them, unused ones 0.
+    /// The fact's ids as documents 01 and 02 write them, unused ones 0.
     ///
     /// ```
     /// use vimelosa_host::Fact;
@@ -95,6 +98,7 @@ impl Fact {
     pub fn ids(self) -> [u8; 3] {
         match self {
             Fact::Class(a) | Fact::Property(a) | Fact::Individual(a) | Fact::Literal(a) => [a, 0, 0],
+            Fact::Exclusive(property) => [property, 0, 0],
             Fact::Subclass { class, superclass } => [class, superclass, 0],
             Fact::Subproperty { property, superproperty } => [property, superproperty, 0],
             Fact::Domain { property, class } => [property, class, 0],
@@ -110,6 +114,7 @@ impl Fact {
     /// use vimelosa_host::Fact;
     /// assert_eq!(Fact::Class(0).word(), 16777216);
     /// assert_eq!(Fact::Member { individual: 4, class: 3 }.word(), 0x09_04_03_00);
+    /// assert_eq!(Fact::Exclusive(5).word(), 0x0b_05_00_00);
     /// ```
     pub fn word(self) -> u32 {
         let [a, b, c] = self.ids();
@@ -131,6 +136,7 @@ impl Fact {
             Kind::Range => Fact::Range { property: a, range: Range::of_id(b) },
             Kind::Member => Fact::Member { individual: a, class: b },
             Kind::Value => Fact::Value { individual: a, value: b, property: c },
+            Kind::Exclusive => Fact::Exclusive(a),
         }
     }
 
@@ -143,12 +149,13 @@ impl Fact {
     }
 }
 
-/// The fact of a word, or the word itself where it is no fact: its kind is not 1 to 10, an unused id is not
+/// The fact of a word, or the word itself where it is no fact: its kind is not 1 to 11, an unused id is not
 /// 0, or the mark stands out of place.
 ///
 /// ```
 /// use vimelosa_host::Fact;
 /// assert_eq!(Fact::try_from(0x09_04_03_00), Ok(Fact::Member { individual: 4, class: 3 }));
+/// assert_eq!(Fact::try_from(0x0b_05_00_00), Ok(Fact::Exclusive(5)));
 /// assert_eq!(Fact::try_from(0x01_01_00_00), Err(0x01_01_00_00));
 /// ```
 impl TryFrom<u32> for Fact {

@@ -48,7 +48,7 @@ impl FusedIterator for Facts<'_> {}
 #[derive(Clone)]
 #[must_use]
 pub struct AllFacts<'a> {
-    facts: Flatten<array::IntoIter<Facts<'a>, 10>>,
+    facts: Flatten<array::IntoIter<Facts<'a>, { Kind::ALL.len() }>>,
     left: usize,
 }
 

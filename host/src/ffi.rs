@@ -46,9 +46,9 @@ extern "C" {
 /// use vimelosa_host::{call_raw, Graph};
 ///
 /// let fresh = Graph::fresh();
-/// let mut output = [0; 66];
+/// let mut output = [0; 72];
 /// let number = call_raw(fresh.image(), &[1, 1, 2, 0, 0], &mut output);
-/// assert_eq!([0, 16, 32, 48].map(|bits| number >> bits & 0xffff), [0, 2, 0, 66]);
+/// assert_eq!([0, 16, 32, 48].map(|bits| number >> bits & 0xffff), [0, 2, 0, 72]);
 ///
 /// let refused = call_raw(fresh.image(), &[1, 7, 2, 0, 0], &mut output);
 /// assert_eq!(refused, 6);
@@ -78,10 +78,10 @@ pub fn call_raw(image: &[u8], ticket: &[u8], output: &mut [u8]) -> u64 {
 /// use vimelosa_host::{call_list_raw, Graph};
 ///
 /// let fresh = Graph::fresh();
-/// let (mut answers, mut output) = ([99; 3], [0; 66]);
+/// let (mut answers, mut output) = ([99; 3], [0; 72]);
 /// let tickets = [1, 1, 2, 0, 0, 1, 7, 2, 0, 0];
 /// let number = call_list_raw(fresh.image(), &tickets, &mut answers, &mut output);
-/// assert_eq!([0, 16, 32, 48].map(|bits| number >> bits & 0xffff), [0, 1, 1, 66]);
+/// assert_eq!([0, 16, 32, 48].map(|bits| number >> bits & 0xffff), [0, 1, 1, 72]);
 /// assert_eq!(answers, [0, 6, 99]);
 /// ```
 #[must_use = "whether the call was refused is told here alone"]
@@ -148,9 +148,9 @@ pub fn write_triples_raw(image: &[u8], output: &mut [u8]) -> u64 {
 /// use vimelosa_host::{read_triples_raw, Graph};
 ///
 /// let text = Graph::fresh().to_triples();
-/// let mut output = [0; 63];
+/// let mut output = [0; 69];
 /// let number = read_triples_raw(text.as_bytes(), &mut output);
-/// assert_eq!([0, 16, 32, 48].map(|bits| number >> bits & 0xffff), [0, 0, 0, 63]);
+/// assert_eq!([0, 16, 32, 48].map(|bits| number >> bits & 0xffff), [0, 0, 0, 69]);
 /// assert_eq!(output, Graph::fresh().image());
 ///
 /// // A text of no lines lacks Resource, which rule H1 asks for; H1 has place 25.

@@ -1,7 +1,7 @@
 //! A graph, held as its image.
 
-use crate::call::{apply_ticket, check_image, Change};
-use crate::image::{fresh_image, rows_of, LONGEST_IMAGE};
+use crate::call::{apply_list, apply_ticket, check_image, Change};
+use crate::image::{fresh_image, has_all_entries, rows_of, LONGEST_IMAGE};
 use crate::rows::Rows;
 use crate::{AllFacts, Fact, Facts, Kind, Refusal, Ticket};
 use std::fmt;
@@ -25,13 +25,22 @@ impl Graph {
         Graph { image: fresh_image() }
     }
 
-    /// The graph of an image.
+    /// The graph of an image. An image of ten entries, as releases before 0.13.0 wrote it, is loaded as one
+    /// without exclusive properties; [`Graph::image`] then has eleven.
     ///
     /// ```
     /// use vimelosa_host::{Graph, Refusal};
     /// let saved = Graph::fresh().image().to_vec();
     /// assert_eq!(Graph::load(&saved), Ok(Graph::fresh()));
     /// assert_eq!(Graph::load(&saved[1..]), Err(Refusal::Malformed));
+    ///
+    /// // With ten entries the bodies start at byte 62: one class, and nothing of the other kinds.
+    /// let mut old = vec![1, 10, 1, 1, 62, 0, 1, 0];
+    /// for (kind, width) in (2..=10).zip([1, 1, 1, 2, 2, 2, 2, 2, 3]) {
+    ///     old.extend([kind, width, 63, 0, 0, 0]);
+    /// }
+    /// old.push(0);
+    /// assert_eq!(Graph::load(&old), Ok(Graph::fresh()));
     /// ```
     ///
     /// # Errors
@@ -39,7 +48,13 @@ impl Graph {
     /// Those of [`check_image`].
     pub fn load(image: &[u8]) -> Result<Graph, Refusal> {
         check_image(image)?;
-        Ok(Graph { image: image.to_vec() })
+        if has_all_entries(image) {
+            return Ok(Graph { image: image.to_vec() });
+        }
+        // A list of no tickets writes the graph anew.
+        let mut output = [0; LONGEST_IMAGE];
+        let written = apply_list(image, &[], &mut [], &mut output)?;
+        Ok(Graph::of_written(&output[..written.length]))
     }
 
     /// The graph of an image that a call has written.
@@ -82,7 +97,7 @@ impl Graph {
     /// ```
     /// use vimelosa_host::Graph;
     /// let graph = Graph::fresh();
-    /// assert_eq!(graph.image().len(), 63);
+    /// assert_eq!(graph.image().len(), 69);
     /// ```
     pub fn image(&self) -> &[u8] {
         &self.image

@@ -1,4 +1,5 @@
-//! The form of an image: contents with an entry for each kind, then a body for each kind.
+//! The form of an image: contents with an entry for each kind, then a body for each kind. An image of the ten
+//! kinds of document 01 is read too, as one without exclusive properties.
 
 use crate::fact::RESOURCE;
 use crate::rows::Rows;
@@ -13,6 +14,9 @@ const EDITION: u8 = 1;
 /// The header: the edition and the number of entries, a byte each.
 const HEADER: usize = 2;
 
+/// Where the header has the number of entries.
+const ENTRIES: usize = 1;
+
 /// A start or a count in the contents: 16 bits, low byte first.
 const FIELD: usize = 2;
 
@@ -22,13 +26,18 @@ const START: usize = 2;
 /// Where an entry has its count.
 const COUNT: usize = START + FIELD;
 
-/// An entry of the contents; there is one for each kind.
+/// An entry of the contents; an image that is written has one for each kind.
 const ENTRY: usize = COUNT + FIELD;
 
 /// The header and the entries; the bodies follow.
 const CONTENTS: usize = HEADER + ENTRY * Kind::ALL.len();
 
 /// No graph's image is longer: the facts with the most ids are the values.
+///
+/// ```
+/// use vimelosa_host::{LONGEST_IMAGE, MOST_FACTS};
+/// assert_eq!(LONGEST_IMAGE, 68 + 3 * MOST_FACTS);
+/// ```
 pub const LONGEST_IMAGE: usize = CONTENTS + Kind::Value.width() * MOST_FACTS;
 
 /// The image of the graph that has the class rdfs:Resource and nothing else.
@@ -46,8 +55,21 @@ pub(crate) fn fresh_image() -> Vec<u8> {
     image
 }
 
-/// One kind's body in a well-formed image.
+/// Whether a well-formed image has an entry for the kind.
+fn has_entry(image: &[u8], kind: Kind) -> bool {
+    kind.number() <= image[ENTRIES]
+}
+
+/// Whether a well-formed image has an entry for each kind, as all that are written have.
+pub(crate) fn has_all_entries(image: &[u8]) -> bool {
+    Kind::ALL.into_iter().all(|kind| has_entry(image, kind))
+}
+
+/// One kind's body in a well-formed image; the empty part at the end if it has no entry for the kind.
 pub(crate) fn rows_of(image: &[u8], kind: Kind) -> Rows<'_> {
+    if !has_entry(image, kind) {
+        return Rows::new(&image[image.len()..], kind.width());
+    }
     let entry = HEADER + ENTRY * (usize::from(kind.number()) - 1);
     let number = |at: usize| usize::from(u16::from_le_bytes([image[at], image[at + 1]]));
     let (start, count) = (number(entry + START), number(entry + COUNT));

@@ -102,7 +102,8 @@ impl Ticket {
         Ticket::of(INSERT, Kind::Member, [individual, class, 0])
     }
 
-    /// Gives an individual a value for a property, which has to be there.
+    /// Gives an individual a value for a property, which has to be there. If the property, or one above it,
+    /// is exclusive, no other individual may have the value for that.
     ///
     /// ```
     /// use vimelosa_host::{Graph, Range, Refusal, Ticket};
@@ -114,5 +115,25 @@ impl Ticket {
     /// ```
     pub fn insert_value(individual: u8, value: u8, property: u8) -> Ticket {
         Ticket::of(INSERT, Kind::Value, [individual, value, property])
+    }
+
+    /// Makes a property exclusive, which has to be there: no two individuals have the same value for it. It
+    /// is refused if two have, and then holds against every later ticket.
+    ///
+    /// ```
+    /// use vimelosa_host::{Change, Graph, Range, Refusal, Ticket};
+    /// let (container, port, polls, press, oven, serial_1) = (2, 3, 10, 20, 21, 30);
+    /// let mut graph = Graph::fresh();
+    /// assert_eq!(graph.apply(Ticket::insert_exclusive(polls)), Err(Refusal::UnknownProperty));
+    /// graph.apply(Ticket::insert_property(polls, container, Range::class(port)?))?;
+    /// assert_eq!(graph.apply(Ticket::insert_exclusive(polls)), Ok(Change { added: 1, removed: 0 }));
+    ///
+    /// // One poller for a port.
+    /// graph.apply(Ticket::insert_value(press, serial_1, polls))?;
+    /// assert_eq!(graph.apply(Ticket::insert_value(oven, serial_1, polls)), Err(Refusal::Clashing));
+    /// # Ok::<(), Refusal>(())
+    /// ```
+    pub fn insert_exclusive(property: u8) -> Ticket {
+        Ticket::of(INSERT, Kind::Exclusive, [property, 0, 0])
     }
 }

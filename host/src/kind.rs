@@ -1,6 +1,6 @@
-//! The kinds of facts, with document 01's numbers.
+//! The kinds of facts, with the numbers of documents 01 and 02.
 
-/// The ten kinds of facts.
+/// The eleven kinds of facts.
 #[derive(Clone, Copy, PartialEq, Eq, PartialOrd, Ord, Hash, Debug)]
 #[repr(u8)]
 pub enum Kind {
@@ -24,11 +24,13 @@ pub enum Kind {
     Member = 9,
     /// PI
     Value = 10,
+    /// Excl, of document 02
+    Exclusive = 11,
 }
 
 impl Kind {
     /// All kinds, in their order in an image.
-    pub const ALL: [Kind; 10] = [
+    pub const ALL: [Kind; 11] = [
         Kind::Class,
         Kind::Property,
         Kind::Individual,
@@ -39,13 +41,14 @@ impl Kind {
         Kind::Range,
         Kind::Member,
         Kind::Value,
+        Kind::Exclusive,
     ];
 
-    /// Document 01's number.
+    /// The number of document 01 or 02.
     ///
     /// ```
     /// use vimelosa_host::Kind;
-    /// assert_eq!(Kind::Value.number(), 10);
+    /// assert_eq!((Kind::Value.number(), Kind::Exclusive.number()), (10, 11));
     /// ```
     pub fn number(self) -> u8 {
         self as u8
@@ -56,10 +59,11 @@ impl Kind {
     /// ```
     /// use vimelosa_host::Kind;
     /// assert_eq!([Kind::Class, Kind::Subclass, Kind::Value].map(Kind::width), [1, 2, 3]);
+    /// assert_eq!(Kind::Exclusive.width(), 1);
     /// ```
     pub const fn width(self) -> usize {
         match self {
-            Kind::Class | Kind::Property | Kind::Individual | Kind::Literal => 1,
+            Kind::Class | Kind::Property | Kind::Individual | Kind::Literal | Kind::Exclusive => 1,
             Kind::Value => 3,
             _ => 2,
         }
@@ -71,7 +75,7 @@ impl Kind {
 /// ```
 /// use vimelosa_host::Kind;
 /// assert_eq!(Kind::try_from(5), Ok(Kind::Subclass));
-/// assert_eq!(Kind::try_from(11), Err(11));
+/// assert_eq!(Kind::try_from(12), Err(12));
 /// ```
 impl TryFrom<u8> for Kind {
     type Error = u8;

@@ -6,6 +6,8 @@
 //! - [`Fact`] and [`Kind`] are what a graph is made of; [`Graph::facts`] reads the facts of a kind off the
 //!   image. Look-ups such as [`Graph::members_of`] and [`Graph::holders_of`] read what they say of an id;
 //!   [`Graph::diff`] compares two graphs.
+//! - [`Ticket::insert_exclusive`] makes a property exclusive: from then on the graph refuses a second
+//!   individual with the same value for it.
 //! - [`Names`] keeps names for ids in a file, and writes and reads facts and tickets with them.
 //! - [`Graph::to_triples`] and [`Graph::from_triples`] write and read a graph as a text of N-Triples.
 //! - [`apply_ticket`], [`apply_list`], [`check_image`], [`write_triples`] and [`read_triples`] are the calls

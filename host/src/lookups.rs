@@ -134,4 +134,37 @@ impl Graph {
     pub fn range_of(&self, property: u8) -> Option<Range> {
         self.rows(Kind::Range).of_first(property).iter().next().map(|ids| Range::of_id(ids[1]))
     }
+
+    /// The properties that are exclusive, ascending: no two individuals have the same value for one of them.
+    ///
+    /// ```
+    /// use vimelosa_host::{Graph, Range, Refusal, Ticket};
+    /// let (machine, serial_number, inventory_number) = (2, 10, 11);
+    /// let mut graph = Graph::fresh();
+    /// for property in [serial_number, inventory_number] {
+    ///     graph.apply(Ticket::insert_property(property, machine, Range::Literal))?;
+    /// }
+    /// graph.apply(Ticket::insert_exclusive(inventory_number))?;
+    /// assert_eq!(graph.exclusive_properties().collect::<Vec<_>>(), [inventory_number]);
+    /// # Ok::<(), Refusal>(())
+    /// ```
+    pub fn exclusive_properties(&self) -> impl Iterator<Item = u8> + '_ {
+        self.body(Kind::Exclusive).iter().copied()
+    }
+
+    /// Whether a property is exclusive; by binary search. A property that is not may be under one that is.
+    ///
+    /// ```
+    /// use vimelosa_host::{Graph, Range, Refusal, Ticket};
+    /// let (machine, serial_number) = (2, 10);
+    /// let mut graph = Graph::fresh();
+    /// graph.apply(Ticket::insert_property(serial_number, machine, Range::Literal))?;
+    /// assert!(!graph.is_exclusive(serial_number));
+    /// graph.apply(Ticket::insert_exclusive(serial_number))?;
+    /// assert!(graph.is_exclusive(serial_number));
+    /// # Ok::<(), Refusal>(())
+    /// ```
+    pub fn is_exclusive(&self, property: u8) -> bool {
+        self.has(Fact::Exclusive(property))
+    }
 }

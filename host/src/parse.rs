@@ -150,7 +150,7 @@ impl FromStr for Fact {
 /// delete property PROPERTY
 /// insert | delete  class CLASS | individual INDIVIDUAL | literal LITERAL | subclass CLASS SUPERCLASS
 ///                | subproperty PROPERTY SUPERPROPERTY | member INDIVIDUAL CLASS
-///                | value INDIVIDUAL VALUE PROPERTY
+///                | value INDIVIDUAL VALUE PROPERTY | exclusive PROPERTY
 /// ticket TEN-HEXADECIMAL-DIGITS
 /// ```
 ///

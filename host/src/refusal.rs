@@ -25,16 +25,17 @@ pub enum Refusal {
     BadLength,
     /// 5: operation, which is neither 1 (insert) nor 2 (delete).
     BadOperation,
-    /// 6: kind, which is not 1 to 10, or is 7 or 8.
+    /// 6: kind, which is not 1 to 11, or is 7 or 8.
     BadKind,
     /// 7: an unused byte not 0, or id 1 anywhere but as c of an insertion of kind 2.
     /// [`Range::class`](crate::Range::class) answers it too, for id 1.
     BadIds,
     /// 8: deletion of Cl(0), or of CSub or CI with b = 0, present or not.
     Guarded,
-    /// 9: inserting PSub with a or b not a property of the table, or PI with c not one.
+    /// 9: inserting PSub with a or b not a property of the table, PI with c not one, or Excl with a not one.
     UnknownProperty,
-    /// 10: inserting where no consistent graph holds table and asked facts.
+    /// 10: inserting where no consistent graph holds table and asked facts; so too where two individuals
+    /// would have one value for an exclusive property.
     Clashing,
     /// 11: the new graph (in reading, the image's or the text's) has more facts than the table has words.
     TooMany,

@@ -71,7 +71,7 @@ impl Display for Kind {
     }
 }
 
-/// The kind's word and the ids in document 01's order; the mark as `Literal`.
+/// The kind's word and the ids in their order; the mark as `Literal`.
 ///
 /// ```
 /// use vimelosa_host::{Fact, Range};
@@ -90,6 +90,7 @@ impl Display for Fact {
 /// use vimelosa_host::{Range, Ticket};
 /// assert_eq!(Ticket::insert_property(5, 2, Range::Literal).to_string(), "insert property 5 2 Literal");
 /// assert_eq!(Ticket::delete_member(4, 3).to_string(), "delete member 4 3");
+/// assert_eq!(Ticket::insert_exclusive(5).to_string(), "insert exclusive 5");
 /// assert_eq!(Ticket::of_bytes([1, 7, 2, 0, 0]).to_string(), "ticket 0107020000");
 /// ```
 impl Display for Ticket {

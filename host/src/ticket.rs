@@ -39,6 +39,7 @@ impl Ticket {
     /// use vimelosa_host::{Range, Ticket};
     /// assert_eq!(Ticket::insert_property(5, 2, Range::Literal).bytes(), [1, 2, 5, 2, 1]);
     /// assert_eq!(Ticket::delete_member(4, 3).bytes(), [2, 9, 4, 3, 0]);
+    /// assert_eq!(Ticket::insert_exclusive(5).bytes(), [1, 11, 5, 0, 0]);
     /// ```
     pub fn bytes(self) -> [u8; 5] {
         self.bytes

@@ -61,12 +61,12 @@ pub fn write_triples(image: &[u8], output: &mut [u8]) -> Result<usize, Refusal> 
 /// use vimelosa_host::{read_triples, Graph, Refusal, Rule};
 ///
 /// let text = Graph::fresh().to_triples();
-/// let mut output = [0; 63];
-/// assert_eq!(read_triples(text.as_bytes(), &mut output), Ok(63));
+/// let mut output = [0; 69];
+/// assert_eq!(read_triples(text.as_bytes(), &mut output), Ok(69));
 /// assert_eq!(output, Graph::fresh().image());
 ///
-/// let short = &mut output[..62];
-/// assert_eq!(read_triples(text.as_bytes(), short), Err(Refusal::ShortOutput { needed: 63 }));
+/// let short = &mut output[..68];
+/// assert_eq!(read_triples(text.as_bytes(), short), Err(Refusal::ShortOutput { needed: 69 }));
 /// assert_eq!(read_triples(b"# a comment\n", short), Err(Refusal::OutsideProfile));
 /// assert_eq!(read_triples(b"", short), Err(Refusal::Inconsistent { rule: Rule::H1 }));
 /// ```
@@ -90,7 +90,7 @@ impl Graph {
     /// is what [`Graph::from_triples`] reads.
     ///
     /// Id n, from 2 to 255, is `<urn:id:n>`, and literal n is `"n"`. Id 0 is the IRI of rdfs:Resource, the
-    /// range 1 that of rdfs:Literal.
+    /// range 1 that of rdfs:Literal. That a property is exclusive is told as its type `<urn:mark:excl>`.
     ///
     /// ```
     /// use vimelosa_host::{Graph, Range, RefusedTicket, Ticket};
@@ -100,12 +100,13 @@ impl Graph {
     /// graph.apply_all_or_none(&[
     ///     Ticket::insert_property(serial_number, machine, Range::Literal),
     ///     Ticket::insert_value(p7, kx, serial_number),
+    ///     Ticket::insert_exclusive(serial_number),
     /// ])?;
     /// let text = graph.to_triples();
     /// let rdf = |name| format!("<http://www.w3.org/1999/02/22-rdf-syntax-ns#{name}>");
     /// let rdfs = |name| format!("<http://www.w3.org/2000/01/rdf-schema#{name}>");
     /// let lines: Vec<&str> = text.lines().collect();
-    /// assert_eq!(lines.len(), 9);
+    /// assert_eq!(lines.len(), 10);
     /// assert_eq!(lines[0], format!("{} {} {} .", rdfs("Resource"), rdf("type"), rdfs("Class")));
     /// assert_eq!(lines[1], format!("<urn:id:2> {} {} .", rdf("type"), rdfs("Class")));
     /// assert_eq!(lines[2], format!("<urn:id:5> {} {} .", rdf("type"), rdf("Property")));
@@ -115,6 +116,7 @@ impl Graph {
     /// assert_eq!(lines[6], format!("<urn:id:6> {} {} .", rdf("type"), rdfs("Resource")));
     /// assert_eq!(lines[7], format!("<urn:id:6> {} <urn:id:2> .", rdf("type")));
     /// assert_eq!(lines[8], "<urn:id:6> <urn:id:5> \"7\" .");
+    /// assert_eq!(lines[9], format!("<urn:id:5> {} <urn:mark:excl> .", rdf("type")));
     /// # Ok::<(), RefusedTicket>(())
     /// ```
     #[must_use]

@@ -31,6 +31,7 @@ fn words_of(kind: Kind) -> (&'static str, &'static str) {
         Kind::Range => ("range", "PROPERTY RANGE"),
         Kind::Member => ("member", "INDIVIDUAL CLASS"),
         Kind::Value => ("value", "INDIVIDUAL VALUE PROPERTY"),
+        Kind::Exclusive => ("exclusive", "PROPERTY"),
     }
 }
 

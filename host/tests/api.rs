@@ -13,8 +13,8 @@ use independent::image::{facts_in, image_of};
 use independent::table::fresh_graph;
 use std::thread;
 use vector_files::{class_cases, database, paper_cases, suite_cases};
+use vimelosa_host::{apply_list, check_image, write_triples, LONGEST_IMAGE, MOST_FACTS};
 use vimelosa_host::{Change, Fact, Graph, Kind, Range, Refusal, RefusedTicket, Ticket};
-use vimelosa_host::{LONGEST_IMAGE, MOST_FACTS};
 
 fn ticket_of(bytes: &[u8]) -> Ticket {
     Ticket::of_bytes(bytes.try_into().expect("five bytes"))
@@ -54,7 +54,47 @@ fn the_longest_image_has_2048_values() {
     let values = (2..=255).flat_map(|x| (2..=255).map(move |y| value(x, y, 2)));
     let graph = independent::graph::Graph::of(values.take(MOST_FACTS));
     assert_eq!(image_of(&graph).unwrap().len(), LONGEST_IMAGE);
-    assert_eq!(LONGEST_IMAGE, 62 + 3 * 2048);
+    assert_eq!(LONGEST_IMAGE, 68 + 3 * 2048);
+}
+
+/// The image of a graph without exclusive properties as releases before 0.13.0 wrote it: without the entry of
+/// kind 11, which is bytes 62 to 67, so that every body starts six bytes earlier.
+fn with_ten_entries(image: &[u8]) -> Vec<u8> {
+    let mut old = [&image[..62], &image[68..]].concat();
+    old[1] = 10;
+    for entry in old[2..62].chunks_exact_mut(6) {
+        let start = u16::from_le_bytes([entry[2], entry[3]]) - 6;
+        entry[2..4].copy_from_slice(&start.to_le_bytes());
+    }
+    old
+}
+
+/// An image of ten entries is loaded as the same graph, and told the same where it is lent.
+#[test]
+fn images_of_ten_entries_are_loaded() {
+    let mut random = Random::for_test("images_of_ten_entries");
+    for round in 0..rounds(40) {
+        let mut graph = Graph::fresh();
+        run(&mut graph, &records(&mut random, &ALL_IDS[round % 4], round));
+        for property in graph.body(Kind::Exclusive).to_vec() {
+            graph.apply(Ticket::delete_exclusive(property)).unwrap();
+        }
+        let old = with_ten_entries(graph.image());
+        assert_eq!(Graph::load(&old).as_ref(), Ok(&graph));
+        assert_eq!(check_image(&old), Ok(()));
+        let needed = graph.to_triples().len();
+        assert_eq!(write_triples(&old, &mut []), Err(Refusal::ShortOutput { needed }));
+
+        // With an exclusive property the image is written with eleven entries.
+        let mut output = [0; LONGEST_IMAGE];
+        let tickets = [Ticket::insert_property(2, 0, Range::Literal), Ticket::insert_exclusive(2)];
+        let list: Vec<u8> = tickets.iter().flat_map(|ticket| ticket.bytes()).collect();
+        let applied = apply_list(&old, &list, &mut [0; 2], &mut output).unwrap();
+        let _ = graph.apply_all(&tickets);
+        assert_eq!(&output[..applied.length], graph.image());
+    }
+    let fresh = with_ten_entries(Graph::fresh().image());
+    assert_eq!(Graph::load(&fresh[..fresh.len() - 1]), Err(Refusal::Malformed));
 }
 
 #[test]
@@ -86,9 +126,11 @@ fn paper_cases_through_the_graph() {
     }
 }
 
+/// Those on 2,048 words, as many as a graph has: members and their classes, exclusive properties.
 #[test]
-fn class_cases_through_the_graph() {
-    for case in class_cases().into_iter().filter(|case| case.words == MOST_FACTS) {
+fn ticket_cases_through_the_graph() {
+    let cases = class_cases().into_iter().chain(vector_files::exclusive_cases());
+    for case in cases.filter(|case| case.words == MOST_FACTS) {
         let mut graph = Graph::fresh();
         assert_eq!(run(&mut graph, &case.list), case.answers, "{}", case.name);
         assert_eq!(words(&graph), case.left, "{}", case.name);
@@ -186,7 +228,7 @@ fn lists_are_run_whole_or_not_at_all() {
 }
 
 #[test]
-fn kinds_have_the_numbers_1_to_10() {
+fn kinds_have_the_numbers_1_to_11() {
     for (number, kind) in (1..).zip(Kind::ALL) {
         assert_eq!(kind.number(), number);
     }

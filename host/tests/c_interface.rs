@@ -12,7 +12,7 @@ const STRICT: [&str; 4] = ["-Wall", "-Wextra", "-Werror", "-pedantic"];
 
 /// What the program prints. The list is document 01's, and one more of two bytes.
 const PRINTED: &str = "\
-insert class 2: answer 0, added 2, removed 0, length 66, rest as lent 1
+insert class 2: answer 0, added 2, removed 0, length 72, rest as lent 1
 delete Resource is guarded: 1
 delete Resource: answer 8, added 0, removed 0, length 0, rest as lent 1
 class 3 is unknown: 1
@@ -22,13 +22,20 @@ short output: answer 13, added 0, removed 0, length 0, rest as lent 1
 the answers are few: 1
 few answers: answer 14, accepted 0, refused 0, length 0, rest as lent 1
 short output: answer 13, accepted 0, refused 0, length 0, rest as lent 1
-list: answer 0, accepted 4, refused 2, length 74, rest as lent 1
+list: answer 0, accepted 4, refused 2, length 80, rest as lent 1
 answers: 0 0 0 0 10 4
 bodies: 0 2 3 4 2 0 3 0 3 2 4 0
 check: answer 0, rule place 0, above 0
 check of a cut image: answer 12, rule place 0, above 0
 check of a bad image: answer 3, rule place 11, above 0
 the bad image is inconsistent: 1
+exclusive: answer 0, accepted 3, refused 2, length 84, rest as lent 1
+answers: 9 0 0 0 10
+check: answer 0, rule place 0, above 0
+check of an exclusive individual: answer 3, rule place 29, above 0
+check of an old image: answer 0, rule place 0, above 0
+no tickets on an old image: answer 0, accepted 0, refused 0, length 69, rest as lent 1
+the image is the new one: 1
 check of no image: answer 12, rule place 0, above 0
 no image: answer 12, added 0, removed 0, length 0, rest as lent 1
 no ticket: answer 4, added 0, removed 0, length 0, rest as lent 1
@@ -36,14 +43,14 @@ no output: answer 13, added 0, removed 0, length 0, rest as lent 1
 all empty: answer 12, accepted 0, refused 0, length 0, rest as lent 1
 no answers: answer 14, accepted 0, refused 0, length 0, rest as lent 1
 no tickets, no output: answer 13, accepted 0, refused 0, length 0, rest as lent 1
-no tickets: answer 0, accepted 0, refused 0, length 63, rest as lent 1
+no tickets: answer 0, accepted 0, refused 0, length 69, rest as lent 1
 the image is the old one: 1
 write triples: answer 0, length 145, rest as lent 1
 the text is one line: 1
 write triples to a short output: answer 13, length 0, rest as lent 1
 write triples of a bad image: answer 3, length 0, rest as lent 1
 write triples of no image: answer 12, length 0, rest as lent 1
-read triples: answer 0, rule place 0, length 66, rest as lent 1
+read triples: answer 0, rule place 0, length 72, rest as lent 1
 bodies: 0 2 2 0
 read triples to a short output: answer 13, rule place 0, length 0, rest as lent 1
 read triples without a last newline: answer 15, rule place 0, length 0, rest as lent 1

@@ -5,10 +5,10 @@ mod independent;
 mod vector_files;
 
 use independent::fact::*;
-use independent::image::{body, image_of, read, write};
+use independent::image::{body, image_of, image_with, read, write};
 use independent::list::{apply_list, ListAnswer};
 use independent::programs::{print_answers, print_facts, words_of};
-use independent::table::{check, fresh, fresh_graph, fresh_table, lookup};
+use independent::table::{check, facts_of, fresh, fresh_graph, fresh_table, lookup};
 use independent::ticket::{apply, Answer};
 use vector_files::bytes;
 
@@ -90,7 +90,7 @@ fn program_one_with_nothing_and_with_leftover_bytes() {
 fn program_two_prints_words_or_nothing() {
     let image = image_of(&fresh_graph()).unwrap();
     assert_eq!(print_facts(&image), "16777216\n");
-    assert_eq!(print_facts(&image[..62]), "");
+    assert_eq!(print_facts(&image[..68]), "");
     assert_eq!(print_facts(&[]), "");
 }
 
@@ -110,14 +110,17 @@ fn bad_size_is_refusal_1() {
 
 #[test]
 fn bad_layout_is_refusal_2() {
-    let laid_wrong: [&[u32]; 7] = [
+    let laid_wrong: [&[u32]; 10] = [
         &[0, 16777216],
         &[16777216, 16777216],
         &[0x0500_0200, 16777216],
         &[16777216, 0x0101_0000],
         &[16777216, 0x0900_0100],
         &[16777217],
-        &[0x0b00_0000],
+        &[16777216, 0x0b01_0000],
+        &[16777216, 0x0b02_0100],
+        &[16777216, 0x0b02_0002],
+        &[0x0c00_0000],
     ];
     for words in laid_wrong {
         let mut table = words.to_vec();
@@ -140,7 +143,7 @@ fn lookup_needs_no_consistent_table() {
 #[test]
 fn mark_stands_only_as_a_range() {
     assert!(Fact::of_word(range(5, MARK).word()).is_some());
-    let elsewhere = [class(1), range(1, 2), domain(5, 1), value(4, 5, 1)];
+    let elsewhere = [class(1), range(1, 2), domain(5, 1), value(4, 5, 1), exclusive(1)];
     assert!(elsewhere.iter().all(|f| Fact::of_word(f.word()).is_none()));
 }
 
@@ -156,7 +159,8 @@ fn ticket_refusals_4_to_9_then_16_then_10() {
         ("0100020000", 6),
         ("0107050200", 6),
         ("0208050101", 6),
-        ("010b020000", 6),
+        ("010c020000", 6),
+        ("020c050000", 6),
         ("0101020001", 7),
         ("0101090200", 7),
         ("0202050200", 7),
@@ -164,6 +168,11 @@ fn ticket_refusals_4_to_9_then_16_then_10() {
         ("0102010201", 7),
         ("010a060105", 7),
         ("0209010000", 7),
+        ("010b010000", 7),
+        ("020b010000", 7),
+        ("010b050500", 7),
+        ("010b050001", 7),
+        ("020b050005", 7),
         ("0201000000", 8),
         ("0205ee0000", 8),
         ("0209ee0000", 8),
@@ -171,6 +180,11 @@ fn ticket_refusals_4_to_9_then_16_then_10() {
         ("0106050900", 9),
         ("0106090500", 9),
         ("0106090900", 9),
+        ("010b000000", 9),
+        ("010b020000", 9),
+        ("010b060000", 9),
+        ("010b070000", 9),
+        ("010b090000", 9),
         ("0109040900", 16),
         ("0109040500", 16),
         ("0109040600", 16),
@@ -201,7 +215,8 @@ fn ticket_refusals_4_to_9_then_16_then_10() {
 fn what_is_there_or_gone_changes_nothing() {
     let there = ["0101000000", "0102050201", "010a060705", "0109060200"];
     let gone = ["0206020000", "020a060709", "0202000000", "0209040200", "0209040900", "0209040500"];
-    for ticket in there.into_iter().chain(gone) {
+    let no_mark = ["020b050000", "020b000000", "020b020000", "020b090000"];
+    for ticket in there.into_iter().chain(gone).chain(no_mark) {
         let mut table = table_after(7);
         assert_eq!(apply(&mut table, &bytes(ticket)), answer([0, 0, 0]), "{ticket}");
         assert_eq!(table, table_after(7));
@@ -249,7 +264,7 @@ fn body_of_a_kind_is_a_part_of_the_image() {
     let mut image = [0; 200];
     let (number, length) = write(&table_after(12), &mut image);
     let image = &image[..length];
-    assert_eq!((number, length), (0, 62 + 7 + 2 * 8 + 3));
+    assert_eq!((number, length), (0, 68 + 7 + 2 * 8 + 3));
     assert_eq!(body(image, CLASS), [0, 2, 3]);
     assert_eq!(body(image, RANGE), [5, 1]);
     assert_eq!(body(image, VALUE), [6, 7, 5]);
@@ -257,8 +272,29 @@ fn body_of_a_kind_is_a_part_of_the_image() {
         (SUBPROPERTY, body(image, DOMAIN).as_ptr()),
         (0, image.as_ptr_range().end),
         (11, image.as_ptr_range().end),
+        (12, image.as_ptr_range().end),
     ] {
         assert_eq!((body(image, kind).len(), body(image, kind).as_ptr()), (0, start));
     }
     assert_eq!(body(&image[..70], CLASS).as_ptr(), image[70..].as_ptr());
+}
+
+/// Excl in an image with eleven entries, and the same facts without it in one with ten.
+#[test]
+fn body_of_the_exclusive_kind() {
+    let mut table = table_after(12);
+    apply(&mut table, &bytes("010b050000"));
+    let graph = facts_of(&table).unwrap();
+    let image = image_of(&graph).unwrap();
+    assert_eq!(image.len(), 68 + 7 + 2 * 8 + 3 + 1);
+    assert_eq!((body(&image, EXCLUSIVE), body(&image, VALUE)), (&[5][..], &[6, 7, 5][..]));
+    let fewer = image_with(10, &graph).unwrap();
+    assert_eq!(fewer.len(), 62 + 7 + 2 * 8 + 3);
+    assert_eq!((body(&fewer, CLASS), body(&fewer, VALUE)), (&[0, 2, 3][..], &[6, 7, 5][..]));
+    for kind in [0, 11, 12, 255] {
+        assert_eq!((body(&fewer, kind).len(), body(&fewer, kind).as_ptr()), (0, fewer.as_ptr_range().end));
+    }
+    let mut again = vec![7; 17];
+    assert_eq!((read(&image, &mut again), facts_of(&again)), (0, Ok(graph.clone())));
+    assert_eq!((read(&fewer, &mut again), facts_of(&again)), (0, Ok(graph.without(exclusive(5)))));
 }

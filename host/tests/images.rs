@@ -1,4 +1,4 @@
-//! Images on the independent implementation: round trips, damage, and the text of document 01 once more.
+//! Images on the independent implementation: round trips, damage, and the text of the documents once more.
 
 mod generator;
 mod independent;
@@ -8,7 +8,7 @@ use generator::tickets::{ALL_IDS, FEW};
 use generator::{graphs, rounds, Random};
 use independent::fact::*;
 use independent::graph::Graph;
-use independent::image::{body, facts_in, image_of, read, write};
+use independent::image::{body, facts_in, image_of, image_with, read, write};
 use independent::table::{facts_of, store, MOST_WORDS};
 
 fn table_of(graph: &Graph, words: usize) -> Vec<u32> {
@@ -21,15 +21,20 @@ fn random_graph(random: &mut Random, round: usize) -> Graph {
     graphs::grown(random, &ALL_IDS[round % 4], 40, MOST_WORDS)
 }
 
-/// Document 01's sentences on images, one after the other.
+/// The documents' sentences on images, one after the other.
 fn is_well_formed(image: &[u8]) -> bool {
-    if image.len() < 62 || image[0] != 1 || image[1] != 10 {
+    let bodies_from = match image {
+        [1, 10, ..] => 62,
+        [1, 11, ..] => 68,
+        _ => return false,
+    };
+    if image.len() < bodies_from {
         return false;
     }
-    let mut end = 62;
-    for kind in 1..=10u8 {
+    let mut end = bodies_from;
+    for kind in 1..=image[1] {
         let entry = &image[usize::from(kind) * 6 - 4..][..6];
-        let width = [1, 1, 1, 1, 2, 2, 2, 2, 2, 3][usize::from(kind) - 1];
+        let width = [1, 1, 1, 1, 2, 2, 2, 2, 2, 3, 1][usize::from(kind) - 1];
         let start = usize::from(entry[2]) + 256 * usize::from(entry[3]);
         let count = usize::from(entry[4]) + 256 * usize::from(entry[5]);
         if entry[0] != kind || usize::from(entry[1]) != width || start != end {
@@ -56,7 +61,7 @@ fn what_is_written_is_read_again() {
     for round in 0..rounds(150) {
         let graph = random_graph(&mut random, round);
         let table = table_of(&graph, graph.len() + random.below(3));
-        let mut output = vec![0xa5; 62 + 3 * graph.len()];
+        let mut output = vec![0xa5; 68 + 3 * graph.len()];
         let (number, length) = write(&table, &mut output);
         assert_eq!(number, 0);
         assert!(output[length..].iter().all(|byte| *byte == 0xa5));
@@ -67,16 +72,47 @@ fn what_is_written_is_read_again() {
     }
 }
 
+/// An image with ten entries is read as the facts without Excl, and never written.
+#[test]
+fn images_with_ten_entries_have_no_exclusive() {
+    let mut random = Random::for_test("images_with_ten_entries");
+    let mut with_exclusive = 0;
+    for round in 0..rounds(150) {
+        let graph = random_graph(&mut random, round);
+        let exclusive: Vec<Fact> = graph.of_kind(EXCLUSIVE).collect();
+        let mut bare = graph.clone();
+        bare.take(exclusive.iter().copied());
+        let fewer = image_with(10, &graph).unwrap();
+        assert!(is_well_formed(&fewer) && fewer[..2] == [1, 10]);
+        assert_eq!(fewer.len() + 6 + exclusive.len(), image_of(&graph).unwrap().len());
+        let mut table = vec![9; bare.len()];
+        assert_eq!(read(&fewer, &mut table), 0);
+        assert_eq!(facts_of(&table), Ok(bare));
+        let mut output = vec![0; fewer.len() + 6];
+        assert_eq!(write(&table, &mut output), (0, fewer.len() + 6));
+        assert_eq!(output[..2], [1, 11]);
+        with_exclusive += usize::from(!exclusive.is_empty());
+    }
+    assert!(with_exclusive > 30, "{with_exclusive}");
+}
+
 #[test]
 fn bodies_hold_the_facts_of_their_kinds() {
     let mut random = Random::for_test("bodies_hold_the_facts_of_their_kinds");
     for round in 0..rounds(40) {
         let graph = random_graph(&mut random, round);
         let image = image_of(&graph).unwrap();
-        for kind in 1..=10 {
+        let fewer = image_with(10, &graph).unwrap();
+        for kind in 1..=11 {
             let ids = graph.of_kind(kind).flat_map(|f| f.ids().into_iter().take(ids_of(kind)));
-            assert_eq!(body(&image, kind), ids.collect::<Vec<u8>>());
+            let ids: Vec<u8> = ids.collect();
+            assert_eq!(body(&image, kind), ids);
+            assert_eq!(body(&fewer, kind), if kind == 11 { &[] } else { &ids[..] });
         }
+        for kind in [0, 12, 255] {
+            assert_eq!(body(&image, kind).as_ptr(), image.as_ptr_range().end);
+        }
+        assert_eq!(body(&fewer, 11).as_ptr(), fewer.as_ptr_range().end);
     }
 }
 
@@ -101,19 +137,21 @@ fn damaged_images_are_refused_or_read_as_themselves() {
     let mut random = Random::for_test("damaged_images");
     let mut seen = [0; 13];
     for round in 0..rounds(100) {
-        let image = image_of(&random_graph(&mut random, round)).unwrap();
+        let graph = random_graph(&mut random, round);
         for _ in 0..60 {
-            let bytes = match random.below(8) {
-                0 => image_of(&graphs::disturbed(&mut random, &FEW, 50)).unwrap(),
-                1 => image_of(&graphs::marked(&mut random, &FEW)).unwrap(),
-                _ => damaged(&mut random, &image),
+            let graph = match random.below(8) {
+                0 => graphs::disturbed(&mut random, &FEW, 50),
+                1 => graphs::marked(&mut random, &FEW),
+                _ => graph.clone(),
             };
+            let whole = graphs::some_image_of(&mut random, &graph);
+            let bytes = if random.is_one_in(5) { whole } else { damaged(&mut random, &whole) };
             let mut table = vec![9; MOST_WORDS];
             let number = read(&bytes, &mut table);
             seen[usize::from(number)] += 1;
             assert_eq!(number == 12, !is_well_formed(&bytes));
             if number == 0 {
-                assert_eq!(image_of(&facts_of(&table).unwrap()).unwrap(), bytes);
+                assert_eq!(image_with(bytes[1], &facts_of(&table).unwrap()).unwrap(), bytes);
             } else {
                 assert!(table.iter().all(|word| *word == 9));
                 assert_eq!(number == 12, body(&bytes, 1).is_empty() && facts_in(&bytes).is_none());
@@ -126,11 +164,14 @@ fn damaged_images_are_refused_or_read_as_themselves() {
 #[test]
 fn every_shorter_length_is_malformed() {
     let mut random = Random::for_test("every_shorter_length");
-    let image = image_of(&graphs::filled(&mut random, 300)).unwrap();
-    for length in 0..image.len() {
-        assert_eq!(read(&image[..length], &mut [0; MOST_WORDS]), 12, "{length}");
+    let graph = graphs::filled(&mut random, 300);
+    for image in [graphs::image(&graph), graphs::ten_entries(&graph)] {
+        for length in 0..image.len() {
+            assert_eq!(read(&image[..length], &mut [0; MOST_WORDS]), 12, "{length}");
+        }
+        assert_eq!(read(&image, &mut [0; MOST_WORDS]), 0);
+        assert_eq!(read(&[image.as_slice(), &[0]].concat(), &mut [0; MOST_WORDS]), 12);
     }
-    assert_eq!(read(&[image.as_slice(), &[0]].concat(), &mut [0; MOST_WORDS]), 12);
 }
 
 #[test]

@@ -124,6 +124,8 @@ fn lines_and_texts_have_their_lengths() {
         (domain(100, 0), 109),
         (range(100, 0), 108),
         (value(100, 101, 102), 41),
+        (exclusive(100), 81),
+        (exclusive(0), 116),
         (class(0), 145),
         (property(0), 154),
         (individual(100), 0),
@@ -143,7 +145,7 @@ fn lines_and_texts_have_their_lengths() {
 fn facts_over(ids: &[u8]) -> Vec<Fact> {
     let pairs = ids.iter().flat_map(|a| ids.iter().map(move |b| (*a, *b)));
     let triples = pairs.flat_map(|(a, b)| ids.iter().map(move |c| [a, b, *c]));
-    let facts = triples.flat_map(|[a, b, c]| (1..=10).map(move |kind| fact(kind, a, b, c)));
+    let facts = triples.flat_map(|[a, b, c]| (1..=11).map(move |kind| fact(kind, a, b, c)));
     facts.filter(Fact::is_fact).collect()
 }
 

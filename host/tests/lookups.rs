@@ -95,6 +95,21 @@ fn domains_and_ranges() {
 }
 
 #[test]
+fn exclusive_properties() {
+    let mut met = 0;
+    for graph in graphs(&mut Random::for_test("exclusive_properties")) {
+        let exclusive = picked(&graph, |fact| match fact {
+            Fact::Exclusive(property) => Some(property),
+            _ => None,
+        });
+        assert!(graph.exclusive_properties().eq(exclusive.iter().copied()));
+        assert!((0..=255).all(|id| graph.is_exclusive(id) == exclusive.contains(&id)));
+        met += exclusive.len();
+    }
+    assert!(met > 10, "{met}");
+}
+
+#[test]
 fn facts_are_found_and_others_are_not() {
     let mut random = Random::for_test("facts_are_found");
     for graph in graphs(&mut random) {

@@ -102,7 +102,7 @@ fn words_with_names_that_are_no_ticket_are_told_apart() {
         (
             "insert machine",
             "read `machine`, expected a kind: class, property, individual, literal, subclass, \
-            subproperty, member, value",
+            subproperty, member, value, exclusive",
         ),
         (
             "insert class Literal",

@@ -90,7 +90,7 @@ fn causes(graph: &Graph, ticket: &[u8], words: usize) -> [bool; 8] {
 fn every_cause_of_refusal_16_occurs() {
     let mut random = Random::for_test("every_cause_of_refusal_16_occurs");
     let mut seen = [0; 8];
-    for round in 0..240 {
+    for round in 0..480 {
         let mut table = fresh_table(random.pick(&[1, 12, 40, 200]));
         for ticket in list(&mut random, &ALL_IDS[round % 4], 60).chunks(5) {
             if apply(&mut table, ticket).number == 16 {
@@ -136,7 +136,7 @@ fn the_rules_agree_with_their_plain_form() {
 
 /// Graphs each one fact away from a consistent one that has facts of every kind.
 fn one_fact_off() -> Vec<Graph> {
-    let more = [property(110), domain(110, 2), range(110, MARK), value(200, 220, 110)];
+    let more = [property(110), domain(110, 2), range(110, MARK), value(200, 220, 110), exclusive(110)];
     let whole = smallest(&graphs::chain(3), &more).unwrap();
     let clashing = [
         property(2),
@@ -148,6 +148,7 @@ fn one_fact_off() -> Vec<Graph> {
         subclass(4, 2),
         subproperty(102, 100),
         subproperty(110, 100),
+        value(201, 220, 110),
     ];
     let fewer = whole.facts().map(|fact| whole.without(fact));
     let further = clashing.iter().map(|fact| Graph::of(whole.facts().chain([*fact])));
@@ -156,14 +157,14 @@ fn one_fact_off() -> Vec<Graph> {
 
 #[test]
 fn every_rule_is_broken_by_some_graph() {
-    let mut broken = [0; 105];
+    let mut broken = [0; 107];
     for graph in one_fact_off() {
         assert_eq!(rules::is_consistent(&graph), plain::is_consistent(&graph), "{graph:?}");
         rules::each_demand(&graph, &mut |demand| {
             broken[usize::from(demand.rule)] += usize::from(!demand.is_met(&graph));
         });
     }
-    for rule in (4..=27).chain(101..=104) {
+    for rule in (4..=27).chain(101..=106) {
         assert!(broken[rule] > 0, "rule {rule} was never broken");
     }
 }

@@ -86,11 +86,11 @@ fn run(mut table: Vec<u32>, tickets: &[[u8; 5]]) -> (Option<(usize, u8)>, Graph)
 }
 
 /// Short lists in any order at all. The first ticket that comes too early is the first that is refused: a
-/// member with 16, the others with 9.
+/// member with 16, the others, Excl among them, with 9.
 #[test]
 fn arrangements_are_accepted_whole_exactly_if_in_order() {
     let mut random = Random::for_test("arrangements_are_accepted_whole");
-    let mut met = [0; 17];
+    let (mut met, mut exclusive) = ([0; 17], 0);
     for round in 0..rounds(2_000) {
         let start = some_start(&mut random, &ALL_IDS[round % 4]);
         let list = accepted(&mut random, &ALL_IDS[round % 4], start, 3 + round % 24);
@@ -104,7 +104,8 @@ fn arrangements_are_accepted_whole_exactly_if_in_order() {
             assert_eq!(refused, expected, "{tickets:02x?} on {:?}", list.start);
             assert!(refused.is_some() || end == list.end, "{tickets:02x?} on {:?}", list.start);
             met[refused.map_or(0, |(_, number)| usize::from(number))] += 1;
+            exclusive += usize::from(early.map_or(false, |place| tickets[place][1] == EXCLUSIVE));
         }
     }
-    assert!([0, 9, 16].iter().all(|number| met[*number] > 300), "{met:?}");
+    assert!([0, 9, 16].iter().all(|number| met[*number] > 300) && exclusive > 100, "{met:?} {exclusive}");
 }

@@ -8,7 +8,7 @@ use generator::tickets::{records, ALL_IDS};
 use generator::{rounds, Random};
 use independent::rules::{first_broken, place_of};
 use vimelosa_host::{
-    apply_list, apply_ticket, check_image, Graph, Range, Refusal, Rule, Ticket, LONGEST_IMAGE,
+    apply_list, apply_ticket, check_image, Change, Graph, Range, Refusal, Rule, Ticket, LONGEST_IMAGE,
 };
 
 #[test]
@@ -90,6 +90,7 @@ fn tickets_that_name_something_by_id_1_are_refused() {
         Ticket::insert_value(1, 4, 5),
         Ticket::insert_value(4, 1, 5),
         Ticket::insert_value(4, 6, 1),
+        Ticket::insert_exclusive(1),
         Ticket::delete_class(1),
         Ticket::delete_property(1),
         Ticket::delete_individual(1),
@@ -103,6 +104,7 @@ fn tickets_that_name_something_by_id_1_are_refused() {
         Ticket::delete_value(1, 4, 5),
         Ticket::delete_value(4, 1, 5),
         Ticket::delete_value(4, 6, 1),
+        Ticket::delete_exclusive(1),
     ];
     for ticket in tickets {
         assert_eq!(Graph::fresh().apply(ticket), Err(Refusal::BadIds), "{ticket:?}");
@@ -135,4 +137,77 @@ fn members_need_a_class_that_is_there() {
     };
     assert_eq!(makers.map(outcome), [Ok(true); 5]);
     assert_eq!(others.map(outcome), [Err(Refusal::UnknownClass); 5]);
+}
+
+/// A graph of properties 5 and 6 from Resource to Resource, 6 under 5.
+fn linked_properties() -> Graph {
+    let mut graph = Graph::fresh();
+    let resource = Range::class(0).unwrap();
+    for property in [5, 6] {
+        graph.apply(Ticket::insert_property(property, 0, resource)).unwrap();
+    }
+    graph.apply(Ticket::insert_subproperty(6, 5)).unwrap();
+    graph
+}
+
+/// Only a property of the graph is made exclusive; what else the id is does not matter.
+#[test]
+fn what_is_exclusive_is_a_property() {
+    let others = [Ticket::insert_class(7), Ticket::insert_individual(7), Ticket::insert_literal(7)];
+    for other in others {
+        let mut graph = linked_properties();
+        graph.apply(other).unwrap();
+        assert_eq!(graph.apply(Ticket::insert_exclusive(7)), Err(Refusal::UnknownProperty), "{other}");
+        assert_eq!(graph.apply(Ticket::insert_exclusive(0)), Err(Refusal::UnknownProperty));
+        assert_eq!(graph.apply(Ticket::delete_exclusive(7)), Ok(Change::default()));
+    }
+}
+
+/// A second individual is refused by way of the exclusive property and of one under it; not by way of one
+/// above it.
+#[test]
+fn a_value_has_one_individual_for_an_exclusive_property() {
+    let one = Change { added: 1, removed: 0 };
+    for (exclusive, second) in [(5, Err(Refusal::Clashing)), (6, Ok(one))] {
+        let mut graph = linked_properties();
+        for individual in [20, 21, 30] {
+            graph.apply(Ticket::insert_individual(individual)).unwrap();
+        }
+        graph.apply(Ticket::insert_value(20, 30, 6)).unwrap();
+        assert_eq!(graph.apply(Ticket::insert_exclusive(exclusive)), Ok(one));
+        assert_eq!(graph.apply(Ticket::insert_exclusive(exclusive)), Ok(Change::default()));
+        assert_eq!(graph.apply(Ticket::insert_value(21, 30, 5)), second, "{exclusive}");
+        assert_eq!(graph.apply(Ticket::insert_value(21, 30, 6)), Err(Refusal::Clashing), "{exclusive}");
+        assert_eq!(graph.apply(Ticket::insert_value(20, 30, 6)), Ok(Change::default()));
+    }
+}
+
+/// Nor is a property made exclusive while a value has two.
+#[test]
+fn a_value_of_two_individuals_keeps_a_property_from_being_exclusive() {
+    let mut graph = linked_properties();
+    graph.apply_all_or_none(&[Ticket::insert_value(20, 30, 5), Ticket::insert_value(21, 30, 6)]).unwrap();
+    assert_eq!(graph.apply(Ticket::insert_exclusive(5)), Err(Refusal::Clashing));
+    graph.apply(Ticket::insert_exclusive(6)).unwrap();
+    graph.apply(Ticket::delete_individual(21)).unwrap();
+    graph.apply(Ticket::insert_exclusive(5)).unwrap();
+}
+
+/// A link carries values up: it is refused if two individuals would then have one, be it that both have it
+/// for the lower property.
+#[test]
+fn values_that_would_meet_keep_a_property_from_coming_under_an_exclusive_one() {
+    let below_5 = [Ticket::insert_value(20, 30, 5), Ticket::insert_value(21, 30, 7)];
+    let both_below = [Ticket::insert_value(20, 30, 7), Ticket::insert_value(21, 30, 7)];
+    for values in [below_5, both_below] {
+        let mut graph = linked_properties();
+        graph.apply(Ticket::insert_property(7, 0, Range::class(0).unwrap())).unwrap();
+        graph.apply(Ticket::insert_exclusive(5)).unwrap();
+        graph.apply_all_or_none(&values).unwrap();
+        for over in [5, 6] {
+            assert_eq!(graph.apply(Ticket::insert_subproperty(7, over)), Err(Refusal::Clashing));
+        }
+        graph.apply(Ticket::delete_exclusive(5)).unwrap();
+        graph.apply(Ticket::insert_subproperty(7, 6)).unwrap();
+    }
 }

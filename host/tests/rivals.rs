@@ -199,7 +199,7 @@ fn list_calls_on_full_graphs() {
 #[test]
 fn list_calls_of_most_tickets() {
     let fresh = image(&table::fresh_graph());
-    for (more, number) in [(0, 62 + 1), (1, 0)] {
+    for (more, number) in [(0, 68 + 1), (1, 0)] {
         let list = vec![0; TICKET_LENGTH * (65_535 + more)];
         let (answer, _) = same_answered_list(&fresh, &list, LONGEST_IMAGE);
         assert_eq!((answer as u16, answer >> 48), ([0, 14][more], number));
@@ -229,7 +229,7 @@ fn texts_read() {
     let mut met = [0; 16];
     for round in 0..rounds(2000) {
         let text = some_text(&mut random, &ALL_IDS[round % 4]);
-        let (number, _) = same_reading(&text, random.pick(&[0, 62, 100, LONGEST_IMAGE, LONGEST_IMAGE]));
+        let (number, _) = same_reading(&text, random.pick(&[0, 68, 100, LONGEST_IMAGE, LONGEST_IMAGE]));
         met[usize::from(number as u16)] += 1;
     }
     for (text, answer) in crowded_texts(&mut random) {
@@ -322,6 +322,42 @@ fn program_one_on_links() {
         same_program(&[list, vec![1, 6, 20, 21, 0]].concat(), &mut met);
     }
     assert!([0, 9, 10].iter().all(|answer| met[*answer] > 1000), "{met:?}");
+}
+
+/// A ticket about which of four properties are exclusive or under each other, or a value of five individuals.
+fn exclusive_ticket(random: &mut Random) -> [u8; 5] {
+    let (p, q) = (20 + random.below(4) as u8, 20 + random.below(4) as u8);
+    let (x, y) = (30 + random.below(5) as u8, 30 + random.below(5) as u8);
+    match random.below(24) {
+        0..=3 => [1, 2, p, 0, 0],
+        4 => [2, 2, p, 0, 0],
+        5..=7 => [1, 6, p, q, 0],
+        8 => [2, 6, p, q, 0],
+        9..=12 => [1, 11, p, 0, 0],
+        13 => [2, 11, p, 0, 0],
+        14 => [2, 3, x, 0, 0],
+        15 => [2, 10, x, y, p],
+        _ => [1, 10, x, y, p],
+    }
+}
+
+/// Values that meet in exclusive properties: by a value, by a link, and where the property is made exclusive;
+/// and tables with a fact of kind 11 more.
+#[test]
+fn program_one_on_exclusive_properties() {
+    let mut random = Random::for_test("rivals_on_exclusive_properties");
+    let (mut met, mut checked) = ([0; 17], [0; 4]);
+    for _ in 0..rounds(100) {
+        let tickets: Vec<[u8; 5]> = (0..60).map(|_| exclusive_ticket(&mut random)).collect();
+        same_program(&tickets.concat(), &mut met);
+        let (_, mut words) = programs::run_tickets(&tickets.concat());
+        words.push(u32::from_be_bytes([11, 20 + random.below(6) as u8, 0, 0]));
+        words.sort_unstable();
+        words.dedup();
+        checked[usize::from(same_check(&words))] += 1;
+    }
+    assert!([0, 9, 10].iter().all(|answer| met[*answer] > 300), "{met:?}");
+    assert!(checked[0] > 10 && checked[3] > 10, "{checked:?}");
 }
 
 /// Members of a tree's lowest class, which stands first, while the tree grows deep and until no more fits;

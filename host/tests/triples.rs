@@ -97,6 +97,19 @@ fn a_lone_literal_is_not_in_the_text() {
     assert_eq!(read(&graph.to_triples()), Ok(graph_of_cases()));
 }
 
+/// The lines of exclusive properties come last, and one value of two individuals is against E2.
+#[test]
+fn exclusive_properties_have_lines() {
+    let mut graph = graph_of_cases();
+    graph.apply(Ticket::insert_exclusive(5)).unwrap();
+    let text = graph.to_triples();
+    assert_eq!(text, text_of(&LINES) + &line("5 type <urn:mark:excl>"));
+    assert_eq!(read(&text), Ok(graph));
+    let second = text_of(&["8 type R", "8 type 2", "8 5 \"7\""]);
+    assert!(read(&(text_of(&LINES) + &second)).is_ok());
+    assert_eq!(read(&(text + &second)), broken_rule(Rule::E2));
+}
+
 #[test]
 fn lines_stand_in_any_order_and_repeat() {
     let backwards: String = LINES.iter().rev().map(|words| line(words).repeat(2)).collect();
@@ -105,6 +118,8 @@ fn lines_stand_in_any_order_and_repeat() {
 
 #[test]
 fn one_line_more() {
+    let mut exclusive = graph_of_cases();
+    exclusive.apply(Ticket::insert_exclusive(5)).unwrap();
     for (more, expected) in [
         ("4 type R", Ok(graph_of_cases())),
         ("6 5 7", Err(Refusal::OutsideProfile)),
@@ -117,7 +132,12 @@ fn one_line_more() {
         ("5 domain L", Err(Refusal::OutsideProfile)),
         ("6 type L", Err(Refusal::OutsideProfile)),
         ("6 5 L", Err(Refusal::OutsideProfile)),
-        ("6 type <urn:mark:excl>", Err(Refusal::OutsideProfile)),
+        ("5 type <urn:mark:excl>", Ok(exclusive)),
+        ("6 type <urn:mark:excl>", broken_rule(Rule::E1)),
+        ("R type <urn:mark:excl>", broken_rule(Rule::E1)),
+        ("L type <urn:mark:excl>", Err(Refusal::OutsideProfile)),
+        ("5 5 <urn:mark:excl>", Err(Refusal::OutsideProfile)),
+        ("5 type <urn:mark:exclusive>", Err(Refusal::OutsideProfile)),
         ("5 range \"7\"", Err(Refusal::OutsideProfile)),
         ("\"7\" 5 6", Err(Refusal::OutsideProfile)),
         ("6 type type", Err(Refusal::OutsideProfile)),

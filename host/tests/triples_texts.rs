@@ -92,11 +92,11 @@ fn the_converse_holds() {
     assert!([0, 3, 11, 15].iter().all(|answer| met[*answer] > 100), "{met:?}");
 }
 
-/// A text with every byte changed, put in or taken out is read as the graph of its lines or refused.
-#[test]
-fn every_byte_changed() {
-    let text = text_of(&Graph::of([class(0), class(2), subclass(2, 0), individual(12), member(12, 0)]));
-    for place in 0..text.len() {
+/// A text with any byte from a place on changed, put in or taken out is read as the graph of its lines or
+/// refused.
+fn same_when_changed(text: &str, from: usize) {
+    assert_eq!(read(text.as_bytes()).0, 0);
+    for place in from..text.len() {
         let (before, after) = text.as_bytes().split_at(place);
         let same = |changed: &[u8]| assert_eq!(read(changed).1, graph_read(changed, MOST_WORDS));
         same(before);
@@ -107,6 +107,20 @@ fn every_byte_changed() {
             same(&[before, &[byte], after].concat());
         }
     }
+}
+
+#[test]
+fn every_byte_changed() {
+    let text = text_of(&Graph::of([class(0), class(2), subclass(2, 0), individual(12), member(12, 0)]));
+    same_when_changed(&text, 0);
+}
+
+#[test]
+fn every_byte_of_an_exclusive_line_changed() {
+    let graph = Graph::of([class(0), property(25), domain(25, 0), range(25, MARK), exclusive(25)]);
+    let lines = lines_of(&graph);
+    let last = lines.last().expect("Excl has a line");
+    same_when_changed(&lines.concat(), lines.concat().len() - last.len());
 }
 
 #[test]

@@ -1,15 +1,18 @@
 //! The vectors on the independent implementation: the W3C suites, the worked examples of the papers, members
-//! and their classes, and texts of triples.
+//! and their classes, exclusive properties, tables and images, and texts of triples.
 
 mod independent;
 mod vector_files;
 
+use independent::image::{body, read, write};
 use independent::programs::{print_answers, run_tickets};
-use independent::table::{fresh_table, MOST_WORDS};
+use independent::rules::{first_broken, name_of};
+use independent::table::{check, facts_of, fresh_table, MOST_WORDS};
 use independent::ticket::apply;
 use independent::triples::{read_triples, write_triples};
 use vector_files::{
-    class_cases, database, ntriples_files, paper_cases, suite_cases, triples_cases, PaperCase, TriplesCase,
+    class_cases, database, exclusive_cases, image_cases, ntriples_files, paper_cases, suite_cases,
+    triples_cases, ImageCase, PaperCase, TicketCase, TriplesCase,
 };
 
 #[test]
@@ -18,8 +21,13 @@ fn suites_have_57_cases_papers_72_and_classes_49() {
 }
 
 #[test]
-fn triples_have_191_cases_and_the_suite_of_them_70_files() {
-    assert_eq!((triples_cases().len(), ntriples_files().len()), (191, 70));
+fn exclusive_properties_have_84_cases_and_images_165() {
+    assert_eq!((exclusive_cases().len(), image_cases().len()), (84, 165));
+}
+
+#[test]
+fn triples_have_250_cases_and_the_suite_of_them_70_files() {
+    assert_eq!((triples_cases().len(), ntriples_files().len()), (250, 70));
 }
 
 /// The words of facts in a table of so many words.
@@ -107,14 +115,46 @@ fn paper_cases_give_their_answers() {
 }
 
 #[test]
-fn class_cases_give_their_answers_and_leave_their_words() {
-    for case in class_cases() {
+fn ticket_cases_give_their_answers_and_leave_their_words() {
+    for case in class_cases().into_iter().chain(exclusive_cases()) {
         let mut found = fresh_table(case.words);
         let answers = case.list.chunks(5).map(|ticket| apply(&mut found, ticket));
         let answers: Vec<[usize; 3]> =
             answers.map(|answer| [answer.number.into(), answer.added, answer.removed]).collect();
         assert_eq!(answers, case.answers, "{}", case.name);
         assert_eq!(found, table(&case.left, case.words), "{}", case.name);
+    }
+}
+
+#[test]
+fn image_cases_give_their_answers() {
+    for case in image_cases() {
+        match case {
+            ImageCase::Check { name, words, lent, answer, broken } => {
+                let found = table(&words, lent);
+                assert_eq!(check(&found), answer, "{name}");
+                let rule = facts_of(&found).ok().and_then(|graph| first_broken(&graph)).map(name_of);
+                assert_eq!(rule.as_deref(), broken, "{name}");
+            }
+            ImageCase::Write { name, words, lent, answer, image } => {
+                let mut found = vec![0xff; lent];
+                let (number, length) = write(&table(&words, MOST_WORDS), &mut found);
+                assert_eq!((number, length), (answer, image.len()), "{name}");
+                let (written, untouched) = found.split_at(length);
+                assert_eq!(written, image, "{name}");
+                assert!(untouched.iter().all(|byte| *byte == 0xff), "{name}");
+            }
+            ImageCase::Read { name, image, lent, answer, words } => {
+                let mut found = vec![0xff; lent];
+                assert_eq!(read(&image, &mut found), answer, "{name}");
+                let left = if answer == 0 { table(&words, lent) } else { vec![0xff; lent] };
+                assert_eq!(found, left, "{name}");
+            }
+            ImageCase::Body { name, image, kind, start, part } => {
+                let found = body(&image, kind);
+                assert_eq!((found, found.as_ptr()), (&part[..], image[start..].as_ptr()), "{name}");
+            }
+        }
     }
 }
 
@@ -132,14 +172,16 @@ fn rearranged_cases_have_the_same_tickets() {
     for case in rearranged {
         assert_eq!(sorted(&case.list), sorted(&papers[0].list), "{}", case.name);
     }
-    let classes = class_cases();
-    let whole = classes.iter().find(|case| case.name == "a list in order").expect("the case is there");
-    let rearranged = classes.iter().filter(|case| case.name.starts_with("the list rearranged"));
-    assert_eq!(rearranged.clone().count(), 5);
-    for case in rearranged {
-        assert_eq!(sorted(&case.list), sorted(&whole.list), "{}", case.name);
-        let is_whole = case.answers.iter().all(|answer| answer[0] == 0);
-        assert_eq!(case.left == whole.left, is_whole, "{}", case.name);
+    for cases in [class_cases(), exclusive_cases()] {
+        let is_first = |case: &&TicketCase| case.name == "a list in order";
+        let whole = cases.iter().find(is_first).expect("the case is there");
+        let rearranged = cases.iter().filter(|case| case.name.starts_with("the list rearranged"));
+        assert_eq!(rearranged.clone().count(), 5);
+        for case in rearranged {
+            assert_eq!(sorted(&case.list), sorted(&whole.list), "{}", case.name);
+            let is_whole = case.answers.iter().all(|answer| answer[0] == 0);
+            assert_eq!(case.left == whole.left, is_whole, "{}", case.name);
+        }
     }
 }
 

@@ -10,7 +10,7 @@ use vimelosa_host::{Asked, Fact, Kind, ParseError, Refusal, Ticket};
 
 #[test]
 fn kinds_are_read_back_from_their_words() {
-    let words = "class property individual literal subclass subproperty domain range member value";
+    let words = "class property individual literal subclass subproperty domain range member value exclusive";
     assert!(words.split(' ').map(str::parse).eq(Kind::ALL.map(Ok::<Kind, ParseError>)));
     assert_eq!(Kind::ALL.map(|kind| kind.to_string()).join(" "), words);
     assert_eq!(format!("{:>8}|", Kind::Class), "   class|");
@@ -21,7 +21,7 @@ fn some_words(random: &mut Random) -> Vec<u32> {
     let mut word = || {
         let kind = random.byte() % 13;
         let ids = [(); 3].map(|_| if random.is_one_in(2) { random.byte() % 3 } else { random.byte() });
-        let used = [0, 1, 1, 1, 1, 2, 2, 2, 2, 2, 3].get(usize::from(kind)).copied().unwrap_or(3);
+        let used = [0, 1, 1, 1, 1, 2, 2, 2, 2, 2, 3, 1].get(usize::from(kind)).copied().unwrap_or(3);
         let kept = if random.is_one_in(5) { 3 } else { used };
         let id = |place: usize| if place < kept { ids[place] } else { 0 };
         u32::from_be_bytes([kind, id(0), id(1), id(2)])
@@ -31,7 +31,7 @@ fn some_words(random: &mut Random) -> Vec<u32> {
 
 #[test]
 fn facts_are_read_back_from_their_words() {
-    let mut counts = [0; 11];
+    let mut counts = [0; 12];
     for word in some_words(&mut Random::for_test("facts_are_read_back")) {
         let fact = Fact::try_from(word);
         assert_eq!(fact.is_ok(), independent::fact::Fact::of_word(word).is_some(), "{word:#x}");
@@ -48,9 +48,9 @@ fn facts_are_read_back_from_their_words() {
 }
 
 #[test]
-fn facts_stand_in_document_01s_order() {
+fn facts_stand_in_the_documents_order() {
     let facts = ["class 2", "property 5", "individual 4", "literal 7", "subclass 3 2", "subproperty 6 5"];
-    let more = ["domain 5 2", "range 5 2", "range 5 Literal", "member 4 3", "value 4 6 5"];
+    let more = ["domain 5 2", "range 5 2", "range 5 Literal", "member 4 3", "value 4 6 5", "exclusive 5"];
     for text in facts.into_iter().chain(more) {
         assert_eq!(text.parse::<Fact>().unwrap().to_string(), text);
     }
@@ -141,13 +141,15 @@ fn words_that_are_no_ticket_are_told_apart() {
     );
     assert_unread(
         &[("insert", ""), ("insert clas 2", "clas"), ("delete domain 5 2", "domain"), ("insert 1 2", "1")],
-        "a kind: class, property, individual, literal, subclass, subproperty, member, value",
+        "a kind: class, property, individual, literal, subclass, subproperty, member, value, exclusive",
     );
     assert_unread(
         &[("insert class 256", "256"), ("delete class +2", "+2"), ("insert member 4 pump", "pump")],
         "an id from 0 to 255",
     );
     let marked = ["insert class 1", "delete member 4 Literal", "insert property 5 1 2", "insert value 4 1 5"];
+    assert_unread(&marked.map(|text| (text, text)), "Literal, which is id 1, only as a range");
+    let marked = ["insert exclusive 1", "delete exclusive Literal"];
     assert_unread(&marked.map(|text| (text, text)), "Literal, which is id 1, only as a range");
     let short = ["ticket", "ticket 01", "ticket 010102000g", "ticket 01010 20000", "ticket +101020000"];
     assert_unread(&short.map(|text| (text, text)), "`ticket` and ten hexadecimal digits");
@@ -162,6 +164,8 @@ fn tickets_with_too_few_or_too_many_ids_are_told_their_form() {
     form("delete property 5 2 Literal", "delete property PROPERTY");
     form("delete subclass 3", "delete subclass CLASS SUPERCLASS");
     form("insert value 4 6", "insert value INDIVIDUAL VALUE PROPERTY");
+    form("insert exclusive 5 2", "insert exclusive PROPERTY");
+    form("delete exclusive", "delete exclusive PROPERTY");
 }
 
 #[test]

@@ -94,7 +94,8 @@ fn draw() -> Command {
         .long_about(
             "Draw the classes with their members and the properties between them, as SVG. Up to 30 classes, \
              subclasses stand below their classes and a property is an arrow from its domain to its range. \
-             With more, subclasses stand to the right and a property is a line in the box of its domain.",
+             With more, subclasses stand to the right and a property is a line in the box of its domain. An \
+             exclusive property is said to be one beside its name.",
         )
         .arg(positional("IMAGE", "The image"))
         .arg(output())

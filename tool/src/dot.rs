@@ -105,13 +105,16 @@ impl Drawing<'_> {
         labels
     }
 
-    /// A property's name, and the properties directly above it.
+    /// A property's name, whether it is exclusive, and the properties directly above it.
     fn label(&self, property: u8) -> String {
-        let above = self.properties.directly_above(property).iter().map(|&id| self.named(id));
-        let above = above.collect::<Vec<_>>().join(", ");
-        match above.is_empty() {
+        let above: Vec<String> =
+            self.properties.directly_above(property).iter().map(|&id| self.named(id)).collect();
+        let under = (!above.is_empty()).then(|| format!("under {}", above.join(", ")));
+        let exclusive = self.graph.is_exclusive(property).then(|| "exclusive".to_owned());
+        let notes: Vec<String> = exclusive.into_iter().chain(under).collect();
+        match notes.is_empty() {
             true => self.named(property),
-            false => format!("{} <I>(under {above})</I>", self.named(property)),
+            false => format!("{} <I>({})</I>", self.named(property), notes.join(", ")),
         }
     }
 

@@ -16,6 +16,7 @@ mod facts;
 mod failure;
 mod files;
 mod hierarchy;
+mod holders;
 mod import;
 mod man;
 mod nearest;
@@ -26,6 +27,7 @@ mod show;
 mod stat;
 mod text;
 mod tickets;
+mod unknown;
 
 use failure::{reason, Answer, Failure};
 use std::io::{self, ErrorKind, Write};

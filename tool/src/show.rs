@@ -93,9 +93,11 @@ fn property_tree(graph: &Graph, names: &Names) -> String {
     let properties = Hierarchy::of_properties(graph);
     let rows = branches(&properties).into_iter().map(|branch| {
         let name = format!("{}{}", branch.before, named(names, branch.id));
-        let reach =
-            if branch.is_repeated { "(see above)".to_owned() } else { reach(graph, names, branch.id) };
-        [name, reach]
+        if branch.is_repeated {
+            return [name, "(see above)".to_owned(), String::new()];
+        }
+        let exclusive = if graph.is_exclusive(branch.id) { "exclusive" } else { "" };
+        [name, reach(graph, names, branch.id), exclusive.to_owned()]
     });
     columns(&rows.collect::<Vec<_>>())
 }

@@ -58,6 +58,24 @@ fn names_with_signs() {
     }
 }
 
+/// Exclusive properties are said to be such, in a small drawing and in a large one, beside what they are
+/// under.
+#[test]
+fn exclusive_properties() {
+    let folder = Folder::with_plant();
+    let shown = || texts(&folder.run(&["draw", "plant.img"]).stdout).concat();
+    assert!(shown().contains("serialNumber (exclusive)"), "{}", shown());
+    assert_eq!(folder.run(&["apply", "plant.img", "insert", "exclusive", "feeds"]).status, 0);
+    let classes = (100..120).map(|id| format!("insert class {id}\n")).collect::<String>();
+    for tickets in ["", &classes] {
+        folder.write("a.tickets", tickets);
+        assert_eq!(folder.run(&["apply", "plant.img", "--file", "a.tickets"]).status, 0);
+        let shown = shown();
+        assert_eq!(shown.matches("exclusive").count(), 2, "{shown}");
+        assert!(shown.contains("feeds (exclusive, under connectedTo)"), "{shown}");
+    }
+}
+
 /// With many classes the arrows go left, and the properties stand in the boxes.
 #[test]
 fn large_drawing() {

@@ -101,7 +101,7 @@ fn special_files() {
 fn image_cut_off() {
     let folder = Folder::with_plant();
     let whole = folder.read("plant.img");
-    for length in [0, 1, 61, 62, 100, whole.len() - 1] {
+    for length in [0, 1, 61, 62, 67, 68, 100, whole.len() - 1] {
         folder.write("plant.img", &whole[..length]);
         for command in ["show", "facts", "stat", "draw", "export"] {
             fails(&folder, 1, "refusal 12", || folder.run(&[command, "plant.img"]));

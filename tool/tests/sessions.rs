@@ -8,14 +8,22 @@ use replay::replay;
 use std::fs;
 use std::path::Path;
 
-/// Replays the golden file of a command in a folder with the tickets of the plant and two broken images.
+/// Replays the golden file of a command in a folder with the tickets of the plant, three broken images and an
+/// old one.
 fn golden(name: &str) {
     let folder = Folder::new();
     fs::copy(fixture("plant.tickets"), folder.join("plant.tickets")).unwrap();
     // 2 is a class and a property.
-    folder.write("broken.img", image_of([&[0, 2], &[2], &[], &[], &[2, 0], &[], &[], &[], &[], &[]]));
+    folder.write("broken.img", image_of([&[0, 2], &[2], &[], &[], &[2, 0], &[], &[], &[], &[], &[], &[]]));
     // 2 is a class, but not a subclass of Resource.
-    folder.write("unlinked.img", image_of([&[0, 2], &[], &[], &[], &[], &[], &[], &[], &[], &[]]));
+    folder.write("unlinked.img", image_of([&[0, 2], &[], &[], &[], &[], &[], &[], &[], &[], &[], &[]]));
+    // Individuals 3 and 4 have the value 5 for the exclusive property 2.
+    let members = &[3, 0, 4, 0, 5, 0];
+    let bodies: [&[u8]; 11] =
+        [&[0], &[2], &[3, 4, 5], &[], &[], &[], &[2, 0], &[2, 0], members, &[3, 5, 2, 4, 5, 2], &[2]];
+    folder.write("shared.img", image_of(bodies));
+    // With ten entries: the class 2.
+    folder.write("old.img", image_of([&[0, 2], &[], &[], &[], &[2, 0], &[], &[], &[], &[], &[]]));
     let path = Path::new(PACKAGE).join("tests/golden").join(format!("{name}.md"));
     assert!(replay(&path, &folder) > 0, "{} has no commands", path.display());
 }

@@ -18,17 +18,30 @@ use std::process::Stdio;
 /// So often a process checks its table; the proved program has the same number.
 const ROUNDS: usize = 5000;
 
+/// A graph whose table is checked.
+pub struct Checked {
+    pub name: String,
+    pub facts: usize,
+    pub image: Vec<u8>,
+}
+
+impl Checked {
+    pub fn of_subject(subject: &Subject) -> Checked {
+        Checked { name: subject.name.to_string(), facts: subject.facts, image: subject.image().to_vec() }
+    }
+}
+
 /// A line for each graph.
-pub fn measure(settings: &Settings, subjects: &[Subject]) -> Vec<Line> {
-    let paths: Vec<PathBuf> = subjects.iter().map(written).collect();
+pub fn measure(settings: &Settings, graphs: &[Checked]) -> Vec<Line> {
+    let paths: Vec<PathBuf> = graphs.iter().map(written).collect();
     paths.iter().for_each(|path| compare(path));
     let each = paths.iter().flat_map(|path| NAMES.map(|candidate| timed(candidate, path)));
     let readings = interleaved(settings.processes, &mut each.collect::<Vec<Run>>());
-    let name = |subject: &Subject| format!("{}, {} facts", subject.name, subject.facts);
-    subjects
+    let name = |graph: &Checked| format!("{}, {} facts", graph.name, graph.facts);
+    graphs
         .iter()
         .zip(shares(&readings, ROUNDS).chunks(NAMES.len()))
-        .map(|(subject, own)| Line::of(name(subject), own))
+        .map(|(graph, own)| Line::of(name(graph), own))
         .collect()
 }
 
@@ -43,9 +56,9 @@ pub fn run(check: fn(&[u32]) -> u8, mut input: impl Read, mut output: impl Write
     writeln!(output, "{accepted}")
 }
 
-fn written(subject: &Subject) -> PathBuf {
-    let path = file_of(&format!("{} {}.image", subject.name, subject.facts));
-    fs::write(&path, subject.image()).expect("the target folder takes a file");
+fn written(graph: &Checked) -> PathBuf {
+    let path = file_of(&format!("{} {}.image", graph.name, graph.facts));
+    fs::write(&path, &graph.image).expect("the target folder takes a file");
     path
 }
 

@@ -72,4 +72,15 @@ CREATE TRIGGER value AFTER INSERT ON fact WHEN NEW.k = 10 BEGIN
   INSERT OR IGNORE INTO fact SELECT 10, NEW.a, NEW.b, b FROM fact WHERE k = 6 AND a = NEW.c;
 END;
 
+-- Rule E2, by the value and by the exclusive property; refusal 9.
+CREATE TRIGGER second_holder AFTER INSERT ON fact WHEN NEW.k = 10 BEGIN
+  SELECT RAISE(ABORT, '10') FROM fact e, fact x
+    WHERE e.k = 11 AND e.a = NEW.c AND x.k = 10 AND x.c = NEW.c AND x.b = NEW.b AND x.a <> NEW.a;
+END;
+CREATE TRIGGER exclusive AFTER INSERT ON fact WHEN NEW.k = 11 BEGIN
+  SELECT RAISE(ABORT, '9') WHERE NOT EXISTS (SELECT 1 FROM fact WHERE k = 2 AND a = NEW.a);
+  SELECT RAISE(ABORT, '10') FROM fact x, fact y
+    WHERE x.k = 10 AND x.c = NEW.a AND y.k = 10 AND y.c = NEW.a AND x.b = y.b AND x.a <> y.a;
+END;
+
 INSERT INTO fact VALUES (1, 0, 0, 0);

@@ -8,6 +8,7 @@
 mod candidates;
 mod checks;
 mod clock;
+mod exclusive;
 mod growth;
 mod host_calls;
 mod list_calls;

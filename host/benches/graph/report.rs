@@ -1,7 +1,8 @@
 //! The report: what is measured, in tables.
 
 use crate::candidates::NAMES;
-use crate::checks;
+use crate::checks::{self, Checked};
+use crate::exclusive;
 use crate::growth::{picture, Curve};
 use crate::host_calls;
 use crate::list_calls;
@@ -21,6 +22,12 @@ const TICKETS: &str =
                        again; an unused byte that is not 0 (7); a class link that closes a circle (10); the \
                        deletion of an individual. The mean is of these five. Beside them a member of a class \
                        that the graph lacks (16).";
+
+/// The graphs of exclusive properties.
+const EXCLUSIVE: &str =
+    "The same of graphs of 200 properties with domain and range Resource, of which none, some or all are \
+     exclusive, and 400 or 1,000 values, each of them with one individual for its property. What rule E2 \
+     takes is to grow with the sum of the exclusive properties and the values, not with their product.";
 
 /// The lists for program one.
 const LISTS: &str =
@@ -110,11 +117,14 @@ fn host_calls_part(graphs: &[host_calls::Measured]) -> String {
 
 fn checks_part(settings: &Settings, subjects: &[Subject], graphs: &[host_calls::Measured]) -> String {
     let read: Vec<Line> = graphs.iter().map(|measured| measured.read_and_check.clone()).collect();
+    let subjects: Vec<Checked> = subjects.iter().map(Checked::of_subject).collect();
     format!(
         "\n## The check\n\nThe check of a table of 2,048 words: a process reads an image and checks its \
-         table 5,000 times.\n\n{}\nThe host call with an empty ticket reads the image and checks the graph \
-         before it refuses (4).\n\n{}",
-        table("check", Unit::Microseconds, &checks::measure(settings, subjects)),
+         table 5,000 times.\n\n{}\n{}\n{}\nThe host call with an empty ticket reads the image and checks \
+         the graph before it refuses (4).\n\n{}",
+        table("check", Unit::Microseconds, &checks::measure(settings, &subjects)),
+        filled(EXCLUSIVE),
+        table("check", Unit::Microseconds, &checks::measure(settings, &exclusive::graphs())),
         table("read and check", Unit::Microseconds, &read)
     )
 }

@@ -1,5 +1,6 @@
-/* Uses the header as a caller in C would: a fresh image, one ticket, a list, the check, texts written and
- * read, refusals, and null where a buffer is empty. Each line that it prints is a call and what it gave. */
+/* Uses the header as a caller in C would: a fresh image, one ticket, a list, a property made exclusive, the
+ * check, texts written and read, refusals, an old image, and null where a buffer is empty. Each line that it
+ * prints is a call and what it gave. */
 
 #include "vimelosa.h"
 
@@ -18,6 +19,24 @@ static const uint8_t tickets[] = {
 };
 
 enum { TICKETS = 6 };
+
+/* Property 5 is exclusive: of individuals 20 and 21 only one has the value 30 for it. */
+static const uint8_t exclusive_tickets[] = {
+    VIMELOSA_INSERT, VIMELOSA_EXCLUSIVE, 5, 0, 0, /* which is not there yet */
+    VIMELOSA_INSERT, VIMELOSA_PROPERTY, 5, 0, 0,
+    VIMELOSA_INSERT, VIMELOSA_EXCLUSIVE, 5, 0, 0,
+    VIMELOSA_INSERT, VIMELOSA_VALUE, 20, 30, 5,
+    VIMELOSA_INSERT, VIMELOSA_VALUE, 21, 30, 5, /* which clashes */
+};
+
+/* The facts of an image that calls write start here. */
+enum { BODIES = 68 };
+
+/* A fresh image of ten entries. */
+static const uint8_t old[] = {1, 10,
+    1, 1, 62, 0, 1, 0,  2, 1, 63, 0, 0, 0,  3, 1, 63, 0, 0, 0,  4, 1, 63, 0, 0, 0,  5, 2, 63, 0, 0, 0,
+    6, 2, 63, 0, 0, 0,  7, 2, 63, 0, 0, 0,  8, 2, 63, 0, 0, 0,  9, 2, 63, 0, 0, 0,  10, 3, 63, 0, 0, 0,
+    0};
 
 /* A byte that no call writes here. */
 enum { LENT = 0xee };
@@ -122,18 +141,18 @@ static void list_calls(void) {
     printf("the answers are few: %d\n", vimelosa_answer(result) == VIMELOSA_FEW_ANSWERS);
     print_list("few answers", result);
     result = vimelosa_apply_list(fresh, sizeof fresh, tickets, sizeof tickets, answers, sizeof answers,
-                                 output, 73);
+                                 output, 79);
     print_list("short output", result);
     result = vimelosa_apply_list(fresh, sizeof fresh, tickets, sizeof tickets, answers, sizeof answers,
                                  output, sizeof output);
     print_list("list", result);
     print_bytes("answers", answers, TICKETS);
-    print_bytes("bodies", output + 62, vimelosa_length(result) - 62);
+    print_bytes("bodies", output + BODIES, vimelosa_length(result) - BODIES);
 }
 
-/* Of the image of 74 bytes in the output. */
+/* Of the image of 80 bytes in the output. */
 static void check_calls(void) {
-    uint8_t plant[74];
+    uint8_t plant[80];
     memcpy(plant, output, sizeof plant);
     print_check("check", vimelosa_check(plant, sizeof plant));
     print_check("check of a cut image", vimelosa_check(plant, sizeof plant - 1));
@@ -142,6 +161,29 @@ static void check_calls(void) {
     print_check("check of a bad image", vimelosa_check(plant, sizeof plant));
     uint64_t result = vimelosa_apply(plant, sizeof plant, tickets, VIMELOSA_TICKET, output, sizeof output);
     printf("the bad image is inconsistent: %d\n", vimelosa_answer(result) == VIMELOSA_INCONSISTENT);
+}
+
+static void exclusive_calls(void) {
+    lend();
+    uint64_t result = vimelosa_apply_list(fresh, sizeof fresh, exclusive_tickets, sizeof exclusive_tickets,
+                                          answers, sizeof answers, output, sizeof output);
+    print_list("exclusive", result);
+    print_bytes("answers", answers, 5);
+    size_t length = vimelosa_length(result);
+    uint8_t plant[VIMELOSA_LONGEST_IMAGE];
+    memcpy(plant, output, length);
+    print_check("check", vimelosa_check(plant, length));
+    /* The last byte is the exclusive property; individual 20 is none. */
+    plant[length - 1] = 20;
+    print_check("check of an exclusive individual", vimelosa_check(plant, length));
+}
+
+static void old_images(void) {
+    lend();
+    print_check("check of an old image", vimelosa_check(old, sizeof old));
+    uint64_t result = vimelosa_apply_list(old, sizeof old, NULL, 0, NULL, 0, output, sizeof output);
+    print_list("no tickets on an old image", result);
+    printf("the image is the new one: %d\n", memcmp(output, fresh, sizeof fresh) == 0);
 }
 
 static void empty_buffers(void) {
@@ -181,9 +223,9 @@ static void texts_read(void) {
     lend();
     uint64_t result = vimelosa_read_triples(lines, length, output, sizeof output);
     print_read("read triples", result);
-    print_bytes("bodies", output + 62, vimelosa_length(result) - 62);
+    print_bytes("bodies", output + BODIES, vimelosa_length(result) - BODIES);
     lend();
-    print_read("read triples to a short output", vimelosa_read_triples(lines, length, output, 65));
+    print_read("read triples to a short output", vimelosa_read_triples(lines, length, output, 71));
     result = vimelosa_read_triples(lines, length - 1, output, sizeof output);
     print_read("read triples without a last newline", result);
     printf("the text is outside the profile: %d\n", vimelosa_answer(result) == VIMELOSA_OUTSIDE_PROFILE);
@@ -196,6 +238,8 @@ int main(void) {
     single_calls();
     list_calls();
     check_calls();
+    exclusive_calls();
+    old_images();
     empty_buffers();
     texts_written();
     texts_read();

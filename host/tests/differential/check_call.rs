@@ -1,13 +1,14 @@
 //! The check of an image across the C interface.
 
 use crate::generator::damage::{damaged, each_contents_byte_changed};
-use crate::generator::graphs::{broken, filled, grown, image, marked, overlong};
+use crate::generator::graphs::{broken, filled, grown, image, marked, overlong, some_image_of, ten_entries};
 use crate::generator::tickets::{ALL_IDS, FEW, MANY, SHARED};
 use crate::generator::{rounds, Random};
 use crate::guarded::same_check;
 use crate::independent::fact::*;
 use crate::independent::graph::Graph;
 use crate::independent::{plain, rules};
+use crate::vector_files::{image_cases, ImageCase};
 
 /// The check's number where the rule at a place is the first that is broken.
 fn broken_at(place: usize) -> u64 {
@@ -40,8 +41,8 @@ fn with(facts: &[Fact]) -> Graph {
     graph
 }
 
-/// For each rule, in document 01's order, a graph that breaks it and none before it.
-fn one_for_each_rule() -> [Graph; 28] {
+/// For each rule, in the documents' order, a graph that breaks it and none before it.
+fn one_for_each_rule() -> [Graph; 30] {
     [
         with(&[property(3)]),                              // 4
         with(&[individual(3)]),                            // 5
@@ -71,6 +72,8 @@ fn one_for_each_rule() -> [Graph; 28] {
         with(&[literal(3)]),                               // H2
         with(&[value(8, 8, 6)]),                           // H3
         with(&[subproperty(5, 6)]),                        // H4
+        with(&[exclusive(8)]),                             // E1
+        with(&[&loose(9)[..], &[member(9, 2), value(8, 8, 5), value(9, 8, 5), exclusive(5)]].concat()), // E2
     ]
 }
 
@@ -82,11 +85,11 @@ fn tells_each_rule_of_a_plant() {
     }
 }
 
-/// Graphs that break one rule or several: each of the 28 is the first now and then.
+/// Graphs that break one rule or several: each of the 30 is the first now and then.
 #[test]
 fn tells_each_rule_of_broken_graphs() {
     let mut random = Random::for_test("check_of_broken_graphs");
-    let mut met = [0; 29];
+    let mut met = [0; 31];
     for round in 0..rounds(6_000) {
         let graph = broken(&mut random, [&SHARED, &FEW, &MANY][round % 3]);
         let number = same_check(&image(&graph));
@@ -112,6 +115,7 @@ fn accepts_consistent_graphs() {
     for round in 0..rounds(200) {
         let graph = grown(&mut random, &ALL_IDS[round % 4], round % 60, 2048);
         assert_eq!(same_check(&image(&graph)), 0);
+        assert_eq!(same_check(&ten_entries(&graph)), 0);
     }
 }
 
@@ -120,7 +124,8 @@ fn on_damaged_images() {
     let mut random = Random::for_test("check_of_damaged_images");
     let mut met = [0; 13];
     for round in 0..rounds(400) {
-        let whole = image(&grown(&mut random, &ALL_IDS[round % 4], 30, 2048));
+        let graph = grown(&mut random, &ALL_IDS[round % 4], 30, 2048);
+        let whole = some_image_of(&mut random, &graph);
         for _ in 0..6 {
             let number = same_check(&damaged(&mut random, &whole));
             met[usize::from(number as u16)] += 1;
@@ -133,20 +138,49 @@ fn on_damaged_images() {
 #[test]
 fn on_changed_contents() {
     let mut random = Random::for_test("check_of_changed_contents");
-    let whole = image(&grown(&mut random, &MANY, 40, 2048));
-    for changed in each_contents_byte_changed(&whole) {
-        same_check(&changed);
+    let graph = grown(&mut random, &MANY, 40, 2048);
+    for whole in [image(&graph), ten_entries(&graph)] {
+        for changed in each_contents_byte_changed(&whole) {
+            same_check(&changed);
+        }
     }
 }
 
 #[test]
 fn on_every_image_length() {
     let mut random = Random::for_test("check_of_every_image_length");
-    let whole = image(&filled(&mut random, 300));
-    for length in 0..whole.len() {
-        assert_eq!(same_check(&whole[..length]), 12);
+    let graph = filled(&mut random, 300);
+    for whole in [image(&graph), ten_entries(&graph)] {
+        for length in 0..whole.len() {
+            assert_eq!(same_check(&whole[..length]), 12);
+        }
+        assert_eq!(same_check(&whole), 0);
     }
-    assert_eq!(same_check(&whole), 0);
+}
+
+/// The vectors: tables that are made of facts, as images, with the rule that each breaks, and images into as
+/// many words as the check has.
+#[test]
+fn on_the_image_cases() {
+    for case in image_cases() {
+        match case {
+            ImageCase::Check { name, words, answer: 0 | 3, broken, .. } => {
+                let facts = words.iter().filter_map(|word| Fact::of_word(*word));
+                let number = same_check(&image(&Graph::of(facts)));
+                let place = (1..=30).find(|place| number == broken_at(*place));
+                let rule = (4..=106).find(|rule| is_rule(*rule) && place == Some(rules::place_of(*rule)));
+                assert_eq!(rule.map(rules::name_of).as_deref(), broken, "{name}");
+            }
+            ImageCase::Read { name, image, lent: 2048, answer, .. } => {
+                assert_eq!(same_check(&image) as u16, answer.into(), "{name}");
+            }
+            _ => {}
+        }
+    }
+}
+
+fn is_rule(number: u8) -> bool {
+    matches!(number, 4..=27 | 101..=106)
 }
 
 /// More facts than a table has words give 11, whether or not a rule is broken; one byte off gives 12.

@@ -143,7 +143,7 @@ pub fn same_check(image: &[u8]) -> u64 {
     assert_eq!(number, expected, "{image:02x?}");
     lent_image.assert_holds(image);
     match number as u16 {
-        3 => assert!((1..=28).contains(&(number >> 16)), "{number:#x}"),
+        3 => assert!((1..=30).contains(&(number >> 16)), "{number:#x}"),
         _ => assert_alone(number, &[0, 11, 12]),
     }
     number

@@ -1,7 +1,7 @@
 //! The host call on images, tickets and outputs of every sort.
 
-use crate::generator::graphs::image;
-use crate::generator::tickets::{any_ticket, ticket, Ids, ALL_IDS, FEW, MANY, PLENTY};
+use crate::generator::graphs::{image, some_image_of, ten_entries};
+use crate::generator::tickets::{any_ticket, holders, ticket, Ids, ALL_IDS, FEW, MANY, PLENTY};
 use crate::generator::{calls, graphs, rounds, Random};
 use crate::guarded::same_call;
 use vimelosa_host::LONGEST_IMAGE;
@@ -10,6 +10,25 @@ use vimelosa_host::LONGEST_IMAGE;
 fn on_growing_graphs() {
     let mut random = Random::for_test("host_call_on_growing_graphs");
     calls::on_growing_graphs(&mut random, rounds(250), same_call);
+}
+
+/// Tickets about exclusive properties in turn on what the accepted ones leave, from an image of either form.
+#[test]
+fn on_exclusive_properties() {
+    let mut random = Random::for_test("host_call_on_exclusive_properties");
+    let mut seen = [0; 17];
+    for round in 0..rounds(60) {
+        let ids = &ALL_IDS[round % 4];
+        let mut held = ten_entries(&graphs::grown(&mut random, ids, 5, 60));
+        for ticket in holders(&mut random, ids, 50).chunks(5) {
+            let (number, output) = same_call(&held, ticket, LONGEST_IMAGE);
+            seen[usize::from(number as u16)] += 1;
+            if number as u16 == 0 {
+                held = output[..(number >> 48) as usize].to_vec();
+            }
+        }
+    }
+    assert!([0, 9, 10].iter().all(|number| seen[*number] > 50), "{seen:?}");
 }
 
 #[test]
@@ -43,9 +62,11 @@ fn on_full_tables() {
 #[test]
 fn on_every_image_length() {
     let mut random = Random::for_test("host_call_on_every_image_length");
-    let whole = image(&graphs::filled(&mut random, 200));
-    for length in 0..=whole.len() {
-        same_call(&whole[..length], &[1, 3, 77, 0, 0], LONGEST_IMAGE);
+    let graph = graphs::filled(&mut random, 200);
+    for whole in [image(&graph), ten_entries(&graph)] {
+        for length in 0..=whole.len() {
+            same_call(&whole[..length], &[1, 3, 77, 0, 0], LONGEST_IMAGE);
+        }
     }
 }
 
@@ -68,7 +89,7 @@ fn on_every_output_length() {
         let ticket = [[1, 3, 77, 0, 0], [2, 1, 3, 0, 0]][round % 2];
         let (number, _) = same_call(&whole, &ticket, LONGEST_IMAGE);
         let length = (number >> 48) as usize;
-        assert!(length > 62);
+        assert!(length > 68);
         for short in 0..length {
             assert_eq!(same_call(&whole, &ticket, short).0, 13);
         }
@@ -78,13 +99,14 @@ fn on_every_output_length() {
     }
 }
 
-/// One byte short for many graphs: the new image counts, not the old one.
+/// One byte short for many graphs: the new image counts, not the old one, whichever form that has.
 #[test]
 fn with_the_output_one_byte_short() {
     let mut random = Random::for_test("host_call_one_byte_short");
     for round in 0..rounds(150) {
         let ids = Ids { deletions: 2, ..ALL_IDS[round % 4] };
-        let whole = image(&graphs::grown(&mut random, &ids, 30, 2048));
+        let graph = graphs::grown(&mut random, &ids, 30, 2048);
+        let whole = some_image_of(&mut random, &graph);
         let ticket = ticket(&mut random, &ids);
         let (number, _) = same_call(&whole, &ticket, LONGEST_IMAGE);
         let length = (number >> 48) as usize;

@@ -33,7 +33,7 @@ fn with_every_output_length() {
         let answers = count_tickets(&list) + 2;
         let listed = same_list_call(&whole, &list, answers, LONGEST_IMAGE);
         let length = listed.image().len();
-        assert!(length > 62);
+        assert!(length > 68);
         for short in 0..length {
             assert_eq!(same_list_call(&whole, &list, answers, short).number, 13);
         }

@@ -1,8 +1,8 @@
 //! The list call on images and lists of every sort.
 
 use crate::generator::damage::{damaged, each_contents_byte_changed};
-use crate::generator::graphs::{broken, filled, grown, image, marked, overlong};
-use crate::generator::tickets::{list, misspelt, records, Ids, ALL_IDS, FEW, MANY, PLENTY};
+use crate::generator::graphs::{broken, filled, grown, image, marked, overlong, some_image_of, ten_entries};
+use crate::generator::tickets::{holders, list, misspelt, records, Ids, ALL_IDS, FEW, MANY, PLENTY};
 use crate::generator::{rounds, Random};
 use crate::guarded::same_list_call;
 use crate::independent::host::MOST_TICKETS;
@@ -41,6 +41,24 @@ fn on_growing_graphs() {
         }
     }
     assert!([0, 4, 5, 6, 7, 8, 9, 10, 16].iter().all(|number| met[*number] > 5), "{met:?}");
+}
+
+/// Lists about exclusive properties, each on what the one before left; the first image has ten entries.
+#[test]
+fn on_exclusive_properties() {
+    let mut random = Random::for_test("list_call_on_exclusive_properties");
+    let mut met = [0; 17];
+    for round in 0..rounds(40) {
+        let ids = Ids { deletions: 4, ..ALL_IDS[round % 4] };
+        let mut held = ten_entries(&grown(&mut random, &ids, 5, 60));
+        for count in [0, 1, 30, 60] {
+            let list = holders(&mut random, &ids, count);
+            let listed = same_list_call(&held, &list, count_tickets(&list), LONGEST_IMAGE);
+            listed.answers.iter().for_each(|number| met[usize::from(*number)] += 1);
+            held = listed.image().to_vec();
+        }
+    }
+    assert!([0, 9, 10].iter().all(|number| met[*number] > 50), "{met:?}");
 }
 
 /// The numbers of single calls one after another, each on the image that the one before left, and the image
@@ -100,13 +118,15 @@ fn on_damaged_images() {
     let mut met = [0; 15];
     for round in 0..rounds(250) {
         let ids = &ALL_IDS[round % 4];
-        let whole = image(&grown(&mut random, ids, 30, 2048));
+        let graph = grown(&mut random, ids, 30, 2048);
+        let whole = some_image_of(&mut random, &graph);
         let mut images: Vec<Vec<u8>> = (0..6).map(|_| damaged(&mut random, &whole)).collect();
-        images.extend([broken(&mut random, &FEW), marked(&mut random, &FEW)].map(|graph| image(&graph)));
+        let graphs = [broken(&mut random, &FEW), marked(&mut random, &FEW)];
+        images.extend(graphs.map(|graph| some_image_of(&mut random, &graph)));
         for image in images {
             let list = list(&mut random, ids, 1 + round % 5);
             let answers = count_tickets(&list) - usize::from(random.is_one_in(3));
-            let output = if random.is_one_in(3) { 62 } else { LONGEST_IMAGE };
+            let output = if random.is_one_in(3) { 68 } else { LONGEST_IMAGE };
             let listed = same_list_call(&image, &list, answers, output);
             met[usize::from(listed.answer())] += 1;
         }
@@ -117,11 +137,13 @@ fn on_damaged_images() {
 #[test]
 fn on_changed_contents() {
     let mut random = Random::for_test("list_call_on_changed_contents");
-    let whole = image(&grown(&mut random, &MANY, 40, 2048));
+    let graph = grown(&mut random, &MANY, 40, 2048);
     let list = [1, 3, 77, 0, 0, 2, 3, 77, 0, 0];
-    for changed in each_contents_byte_changed(&whole) {
-        same_list_call(&changed, &list, 2, LONGEST_IMAGE);
-        same_list_call(&changed, &list, 1, 0);
+    for whole in [image(&graph), ten_entries(&graph)] {
+        for changed in each_contents_byte_changed(&whole) {
+            same_list_call(&changed, &list, 2, LONGEST_IMAGE);
+            same_list_call(&changed, &list, 1, 0);
+        }
     }
 }
 

@@ -1,11 +1,11 @@
 //! Program one on lists of tickets.
 
-use crate::generator::tickets::{list, Ids, ALL_IDS, PLENTY};
+use crate::generator::tickets::{holders, list, Ids, ALL_IDS, PLENTY};
 use crate::generator::{rounds, Random};
 use crate::independent::programs::print_answers;
 use crate::independent::table::MOST_WORDS;
 use crate::process::Program;
-use crate::vector_files::{class_cases, database, paper_cases, suite_cases};
+use crate::vector_files::{class_cases, database, exclusive_cases, paper_cases, suite_cases};
 
 fn assert_same(program: &Program, list: &[u8]) {
     assert_eq!(program.output(list), print_answers(list), "{list:02x?}");
@@ -19,6 +19,21 @@ fn on_random_lists() {
         let list = list(&mut random, &ALL_IDS[round % 4], 80);
         assert_same(&program, &list);
     }
+}
+
+/// Four properties, Excl, links and values that come and go: most lists meet 10.
+#[test]
+fn on_exclusive_properties() {
+    let program = Program::one();
+    let mut random = Random::for_test("program_one_on_exclusive_properties");
+    let mut clashes = 0;
+    for round in 0..rounds(200) {
+        let ids = Ids { deletions: 3 + round % 5, ..ALL_IDS[round % 4] };
+        let list = holders(&mut random, &ids, 80);
+        assert_same(&program, &list);
+        clashes += print_answers(&list).lines().filter(|line| line.starts_with("10 ")).count();
+    }
+    assert!(clashes > 500, "{clashes}");
 }
 
 /// A class; then classes one over the other above it, linked before or after its first members; members until
@@ -127,9 +142,10 @@ fn on_the_papers() {
 
 /// Those on 2,048 words, as many as the program has.
 #[test]
-fn on_the_classes() {
+fn on_the_classes_and_exclusive_properties() {
     let program = Program::one();
-    for case in class_cases().iter().filter(|case| case.words == MOST_WORDS) {
+    let cases = class_cases().into_iter().chain(exclusive_cases());
+    for case in cases.filter(|case| case.words == MOST_WORDS) {
         let lines = case.answers.iter().map(|[n, a, r]| format!("{n} {a} {r}\n"));
         let printed = format!("{}{}\n", lines.collect::<String>(), case.left.len());
         assert_eq!(program.output(&case.list), printed, "{}", case.name);

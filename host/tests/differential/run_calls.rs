@@ -1,13 +1,13 @@
 //! The program `run_calls` on scripts.
 
 use crate::generator::damage::damaged;
-use crate::generator::graphs::{filled, grown, image, overfull};
+use crate::generator::graphs::{filled, grown, image, overfull, ten_entries};
 use crate::generator::scripts::{hexadecimal, script, table_line, words_of};
-use crate::generator::tickets::{any_ticket, ticket, Ids, ALL_IDS, FEW, PLENTY};
+use crate::generator::tickets::{any_ticket, holders, ticket, Ids, ALL_IDS, FEW, PLENTY};
 use crate::generator::{rounds, Random};
 use crate::independent::script::run_script;
 use crate::process::Program;
-use crate::vector_files::class_cases;
+use crate::vector_files::{class_cases, exclusive_cases, image_cases, ImageCase};
 use std::collections::BTreeSet;
 
 fn assert_same(program: &Program, script: &str) {
@@ -61,11 +61,11 @@ fn random_scripts_meet_every_answer() {
     assert!(["same 0", "same 1", "?"].iter().all(|line| met.contains(*line)));
 }
 
-/// The cases of members and their classes, on tables of their lengths.
+/// The cases of members and their classes, and of exclusive properties, on tables of their lengths.
 #[test]
-fn on_the_classes() {
+fn on_the_classes_and_exclusive_properties() {
     let program = Program::calls();
-    for case in class_cases() {
+    for case in class_cases().into_iter().chain(exclusive_cases()) {
         let tickets = case.list.chunks(5).map(|ticket| format!("apply {}\n", hexadecimal(ticket)));
         let table = format!("table {:04x} 00000000\nfresh\n", case.words);
         let answers = case.answers.iter().map(|[n, a, r]| format!("apply {n} {a} {r}\n"));
@@ -74,6 +74,70 @@ fn on_the_classes() {
         let printed = format!("table\nfresh 0\n{}words{words}\n", answers.collect::<String>());
         assert_eq!(program.output(script.as_bytes()), printed, "{}", case.name);
         assert_eq!(run_script(&script), printed, "{}", case.name);
+    }
+}
+
+/// A vector of tables and images as a script, and what is printed for it.
+fn script_of(case: &ImageCase) -> (&'static str, String, String) {
+    let table = |lent: usize| format!("table {lent:04x} 00000001\nkeep\n");
+    match case {
+        ImageCase::Check { name, words, lent, answer, broken } => {
+            let rule = broken.map_or(String::new(), |rule| format!(" {rule}"));
+            (name, table_line(*lent, words) + "\ncheck\n", format!("table\ncheck {answer}{rule}\n"))
+        }
+        ImageCase::Write { name, words, lent, answer, image } => {
+            let spare = if *answer == 0 { lent - image.len() } else { *lent };
+            let output = [image.as_slice(), &vec![0xff; spare]].concat();
+            let shown: String = output.iter().map(|byte| format!(" {byte:02x}")).collect();
+            let script = format!("{}\nwrite {lent:04x}\n", table_line(2048, words));
+            (name, script, format!("table\nwrite {answer} {}{shown}\n", image.len()))
+        }
+        ImageCase::Read { name, image, lent, answer, words } => {
+            let left: String = words.iter().map(|word| format!(" {word:08x}")).collect();
+            let (command, printed) = match answer {
+                0 => ("words", format!("words{left}")),
+                _ => ("same", "same 1".to_string()),
+            };
+            let script = format!("{}read {}\n{command}\n", table(*lent), hexadecimal(image));
+            (name, script, format!("table\nkeep\nread {answer}\n{printed}\n"))
+        }
+        ImageCase::Body { name, image, kind, part, .. } => {
+            let shown: String = part.iter().map(|byte| format!(" {byte:02x}")).collect();
+            let script = format!("body {kind:04x} {}\n", hexadecimal(image));
+            (name, script, format!("body {}{shown}\n", part.len()))
+        }
+    }
+}
+
+#[test]
+fn on_the_image_cases() {
+    let program = Program::calls();
+    for case in image_cases() {
+        let (name, script, printed) = script_of(&case);
+        assert_eq!(run_script(&script), printed, "{name}");
+        assert_eq!(program.output(script.as_bytes()), printed, "{name}");
+    }
+}
+
+/// Lists about exclusive properties on tables that they fill, by each of the three calls, and the check of
+/// what is left.
+#[test]
+fn on_exclusive_properties() {
+    let program = Program::calls();
+    let mut random = Random::for_test("run_calls_on_exclusive_properties");
+    for round in 0..rounds(40) {
+        let ids = Ids { deletions: 4, ..ALL_IDS[round % 4] };
+        let words = words_of(&grown(&mut random, &ids, 10, 60));
+        let length = words.len() + random.pick(&[0, 3, 15, 30, 200]);
+        let list = holders(&mut random, &ids, 40);
+        let mut lines = vec![table_line(length, &words), "keep".to_string()];
+        for name in ["list", "each"] {
+            lines.push(format!("{name} 0040 {}", hexadecimal(&list)));
+            lines.extend(["words", "check", "write 1000", "back"].map(String::from));
+        }
+        lines.extend(list.chunks(5).map(|ticket| format!("apply {}", hexadecimal(ticket))));
+        lines.extend(["words", "check"].map(String::from));
+        assert_same(&program, &(lines.join("\n") + "\n"));
     }
 }
 
@@ -110,7 +174,9 @@ fn on_overfull_images() {
     for bytes in [whole.clone(), damaged(&mut random, &whole), whole[..whole.len() - 1].to_vec()] {
         lines.extend([format!("read {}", hexadecimal(&bytes)), "same".to_string()]);
     }
-    lines.push(format!("body 000a {}", hexadecimal(&whole)));
+    for kind in [10, 11] {
+        lines.push(format!("body {kind:04x} {}", hexadecimal(&whole)));
+    }
     assert_same(&program, &(lines.join("\n") + "\n"));
 }
 
@@ -122,12 +188,14 @@ fn on_damaged_images() {
     for _ in 0..rounds(6) {
         let graph = grown(&mut random, &FEW, 20, 40);
         let short = random.below(2);
-        let lines = [
-            table_line(graph.len() - short, &words_of(&graph)),
-            "keep".to_string(),
-            format!("damage {}", hexadecimal(&image(&graph))),
-            "same\n".to_string(),
-        ];
-        assert_same(&program, &lines.join("\n"));
+        for whole in [image(&graph), ten_entries(&graph)] {
+            let lines = [
+                table_line(graph.len() - short, &words_of(&graph)),
+                "keep".to_string(),
+                format!("damage {}", hexadecimal(&whole)),
+                "same\n".to_string(),
+            ];
+            assert_same(&program, &lines.join("\n"));
+        }
     }
 }

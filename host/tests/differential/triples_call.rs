@@ -18,7 +18,7 @@ use vimelosa_host::LONGEST_IMAGE;
 fn read(random: &mut Random, text: &[u8]) -> u64 {
     let (number, _) = same_read(text, LONGEST_IMAGE);
     if number as u16 != 0 {
-        assert_eq!(same_read(text, random.pick(&[0, 63, 7_000])).0, number);
+        assert_eq!(same_read(text, random.pick(&[0, 69, 7_000])).0, number);
         return number;
     }
     let length = (number >> 48) as usize;
@@ -73,7 +73,7 @@ fn on_each_change() {
 #[test]
 fn on_every_byte_of_a_text() {
     let graph = Graph::of([class(0), property(25), domain(25, 0), range(25, 1), individual(6), member(6, 0)]);
-    let text = text_of(&Graph::of(graph.facts().chain([literal(100), value(6, 100, 25)])));
+    let text = text_of(&Graph::of(graph.facts().chain([literal(100), value(6, 100, 25), exclusive(25)])));
     assert_eq!(same_read(text.as_bytes(), LONGEST_IMAGE).0 as u16, 0);
     for place in 0..text.len() {
         let (before, after) = text.as_bytes().split_at(place);
@@ -100,9 +100,10 @@ fn on_numbers_at_every_place() {
     let odd = ["", "+2", "-2", "2.", "2a", "a", "00", "0000", ":", "/", "1:", "25:", "2/"].map(String::from);
     for number in numbers.chain(odd) {
         let (id, quoted) = (format!("<urn:id:{number}>"), format!("\"{number}\""));
-        let class = Term::Class.text();
+        let (class, exclusive) = (Term::Class.text(), Term::Exclusive.text());
         for [subject, predicate, object] in [
             [&id, &Term::Type.text(), &class],
+            [&id, &Term::Type.text(), &exclusive],
             [&id, &Term::SubpropertyOf.text(), &id],
             [&Term::Id(0).text(), &Term::SubclassOf.text(), &id],
             [&Term::Id(7).text(), &id, &id],
@@ -120,14 +121,14 @@ fn on_numbers_at_every_place() {
 #[test]
 fn tells_the_rules_of_broken_graphs() {
     let mut random = Random::for_test("triples_read_rules");
-    let mut met = [0; 29];
+    let mut met = [0; 31];
     for round in 0..rounds(6_000) {
         let graph = broken(&mut random, [&SHARED, &FEW, &MANY][round % 3]);
         let (number, _) = same_read(text_of(&graph).as_bytes(), LONGEST_IMAGE);
         met[usize::from((number >> 16) as u16)] += usize::from(number as u16 == 3);
     }
-    let broken: Vec<usize> = (1..29).filter(|place| met[*place] > 0).collect();
-    assert!(broken.len() >= 25 && met[11] == 0, "{met:?}");
+    let broken: Vec<usize> = (1..31).filter(|place| met[*place] > 0).collect();
+    assert!(broken.len() >= 27 && met[11] == 0 && met[29] > 0 && met[30] > 0, "{met:?}");
 }
 
 /// About as many facts as a table has words, more, and a bad line after them.

@@ -1,7 +1,7 @@
 //! The programs `write_triples`, `read_triples` and `check_triples` on images and texts.
 
 use crate::generator::damage::damaged;
-use crate::generator::graphs::{broken, filled, grown, image, marked, overlong};
+use crate::generator::graphs::{broken, filled, grown, image, marked, overlong, some_image_of};
 use crate::generator::outside::OUTSIDE;
 use crate::generator::tickets::{ALL_IDS, FEW, MANY};
 use crate::generator::triples::*;
@@ -59,7 +59,8 @@ fn write_triples_on_images() {
     let program = Program::write_triples();
     let mut random = Random::for_test("write_triples_on_images");
     for round in 0..rounds(100) {
-        let whole = image(&grown(&mut random, &ALL_IDS[round % 4], 40, 2048));
+        let graph = grown(&mut random, &ALL_IDS[round % 4], 40, 2048);
+        let whole = some_image_of(&mut random, &graph);
         let mut images = vec![damaged(&mut random, &whole), image(&broken(&mut random, &FEW)), whole];
         images.push(image(&marked(&mut random, &FEW)));
         for image in &images {

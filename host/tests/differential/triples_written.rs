@@ -1,7 +1,7 @@
 //! Images written as texts across the C interface.
 
 use crate::generator::damage::{damaged, each_contents_byte_changed};
-use crate::generator::graphs::{broken, filled, grown, image, marked, overlong};
+use crate::generator::graphs::{broken, filled, grown, image, marked, overlong, some_image_of, ten_entries};
 use crate::generator::tickets::{ALL_IDS, FEW, MANY, SHARED};
 use crate::generator::triples::{full, longest_text, LONGEST_CONSISTENT_TEXT};
 use crate::generator::{rounds, Random};
@@ -70,7 +70,8 @@ fn on_damaged_images() {
     let mut random = Random::for_test("triples_written_damaged");
     let mut met = [0; 14];
     for round in 0..rounds(300) {
-        let whole = image(&grown(&mut random, &ALL_IDS[round % 4], 30, 200));
+        let graph = grown(&mut random, &ALL_IDS[round % 4], 30, 200);
+        let whole = some_image_of(&mut random, &graph);
         for _ in 0..4 {
             let length = random.pick(&[0, 145, 1_000, 40_000]);
             let image = if random.is_one_in(5) { whole.clone() } else { damaged(&mut random, &whole) };
@@ -86,12 +87,15 @@ fn on_damaged_images() {
 #[test]
 fn on_changed_contents_and_every_image_length() {
     let mut random = Random::for_test("triples_written_changed_contents");
-    let whole = image(&grown(&mut random, &MANY, 40, 2048));
-    for changed in each_contents_byte_changed(&whole) {
-        same_written(&changed, 40_000);
-    }
-    for length in 0..whole.len() {
-        assert_eq!(same_written(&whole[..length], 40_000).0, 12);
+    let graph = grown(&mut random, &MANY, 40, 2048);
+    for whole in [image(&graph), ten_entries(&graph)] {
+        for changed in each_contents_byte_changed(&whole) {
+            same_written(&changed, 40_000);
+        }
+        for length in 0..whole.len() {
+            assert_eq!(same_written(&whole[..length], 40_000).0, 12);
+        }
+        assert_eq!(same_written(&whole, 40_000).0 as u16, 0);
     }
 }
 

@@ -1,7 +1,7 @@
 //! Host calls of every sort, for whoever compares two implementations of it.
 
 use super::damage::{damaged, each_contents_byte_changed};
-use super::graphs::{disturbed, grown, image, marked, overlong};
+use super::graphs::{disturbed, grown, image, marked, overlong, some_image_of, ten_entries};
 use super::tickets::{any_ticket, ALL_IDS, FEW, MANY};
 use super::Random;
 use crate::independent::table::fresh_graph;
@@ -11,11 +11,11 @@ use vimelosa_host::LONGEST_IMAGE;
 /// they leave.
 pub type SameCall = fn(&[u8], &[u8], usize) -> (u64, Vec<u8>);
 
-/// Fifty tickets in turn on what the accepted ones leave of a fresh graph; one output in six is about as long
-/// as the image.
+/// Fifty tickets in turn on what the accepted ones leave of a fresh graph, whose image has ten entries at
+/// first now and then; one output in six is about as long as the image.
 pub fn on_growing_graphs(random: &mut Random, rounds: usize, same_call: SameCall) {
     for round in 0..rounds {
-        let mut held = image(&fresh_graph());
+        let mut held = some_image_of(random, &fresh_graph());
         for _ in 0..50 {
             let ticket = any_ticket(random, &ALL_IDS[round % 4]);
             let around = random.below(held.len() + 8);
@@ -33,23 +33,30 @@ pub fn on_growing_graphs(random: &mut Random, rounds: usize, same_call: SameCall
 pub fn on_damaged_images(random: &mut Random, rounds: usize, same_call: SameCall) {
     for round in 0..rounds {
         let ids = &ALL_IDS[round % 4];
-        let whole = image(&grown(random, ids, 30, 2048));
+        let graph = grown(random, ids, 30, 2048);
+        let whole = some_image_of(random, &graph);
         for _ in 0..6 {
             let ticket = any_ticket(random, ids);
             same_call(&damaged(random, &whole), &ticket, LONGEST_IMAGE);
         }
-        let disturbed = image(&disturbed(random, &FEW, 50));
+        let graph = disturbed(random, &FEW, 50);
+        let disturbed = some_image_of(random, &graph);
         same_call(&disturbed, &any_ticket(random, &FEW), LONGEST_IMAGE);
-        let marked = image(&marked(random, &FEW));
+        let graph = marked(random, &FEW);
+        let marked = some_image_of(random, &graph);
         same_call(&marked, &any_ticket(random, &FEW), LONGEST_IMAGE);
     }
 }
 
-/// An image with each byte of the contents changed, and one of too many facts, whole and without its start.
+/// Images of both forms with each byte of the contents changed, and one of too many facts, whole and without
+/// its start.
 pub fn on_changed_contents(random: &mut Random, same_call: SameCall) {
-    let whole = image(&grown(random, &MANY, 40, 2048));
-    for changed in each_contents_byte_changed(&whole) {
-        same_call(&changed, &[1, 3, 77, 0, 0], LONGEST_IMAGE);
+    let graph = grown(random, &MANY, 40, 2048);
+    for whole in [image(&graph), ten_entries(&graph)] {
+        same_call(&whole, &[1, 3, 77, 0, 0], LONGEST_IMAGE);
+        for changed in each_contents_byte_changed(&whole) {
+            same_call(&changed, &[1, 3, 77, 0, 0], LONGEST_IMAGE);
+        }
     }
     let overlong = image(&overlong());
     same_call(&overlong, &[1, 1, 2, 0, 0], LONGEST_IMAGE);

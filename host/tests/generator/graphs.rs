@@ -4,7 +4,7 @@ use super::tickets::{ticket, ticket_with, Ids, MANY, PLENTY};
 use super::Random;
 use crate::independent::fact::*;
 use crate::independent::graph::Graph;
-use crate::independent::image::image_of;
+use crate::independent::image::{image_of, image_with, FEWER_ENTRIES};
 use crate::independent::insertion::smallest;
 use crate::independent::table::fresh_graph;
 use crate::independent::ticket::{asked_by, changed};
@@ -49,22 +49,40 @@ pub fn broken(random: &mut Random, ids: &Ids) -> Graph {
 /// A fact between ids of the graph that are of its sorts, or an id of one sort as one of another; none where
 /// the graph has none of a sort.
 fn known_fact(random: &mut Random, graph: &Graph) -> Option<Fact> {
-    let choice = random.below(10);
-    let sorts = [(); 2].map(|_| CLASS + random.below(4) as u8);
+    let choice = random.below(13);
+    let [sort, other_sort] = [(); 2].map(|_| CLASS + random.below(4) as u8);
+    let sort = if random.is_one_in(5) { EXCLUSIVE } else { sort };
+    let second = second_holder(random, graph);
     let mut one = |kind: u8| {
         let known: Vec<u8> = graph.of_kind(kind).map(|fact| fact.a).collect();
         (!known.is_empty()).then(|| random.pick(&known))
     };
     Some(match choice {
-        0 => fact(sorts[0], one(sorts[1])?, 0, 0),
+        0 => fact(sort, one(other_sort)?, 0, 0),
         1 => subclass(one(CLASS)?, one(CLASS)?),
         2..=4 => subproperty(one(PROPERTY)?, one(PROPERTY)?),
         5 => domain(one(PROPERTY)?, one(CLASS)?),
         6 => range(one(PROPERTY)?, one(CLASS)?),
         7 => member(one(INDIVIDUAL)?, one(CLASS)?),
         8 => value(one(INDIVIDUAL)?, one(INDIVIDUAL)?, one(PROPERTY)?),
-        _ => value(one(INDIVIDUAL)?, one(LITERAL)?, one(PROPERTY)?),
+        9 => value(one(INDIVIDUAL)?, one(LITERAL)?, one(PROPERTY)?),
+        10 => exclusive(one(PROPERTY)?),
+        _ => second?,
     })
+}
+
+/// A value that the graph has, with another holder, of an exclusive property where there is one; none where
+/// the graph has no value or no other holder for it.
+fn second_holder(random: &mut Random, graph: &Graph) -> Option<Fact> {
+    let values: Vec<Fact> = graph.of_kind(VALUE).collect();
+    let of_marked: Vec<Fact> = values.iter().copied().filter(|held| graph.has(exclusive(held.c))).collect();
+    let chosen = if of_marked.is_empty() { values } else { of_marked };
+    let held = (!chosen.is_empty()).then(|| random.pick(&chosen))?;
+    // One in the first one's classes breaks no rule about members.
+    let classes: Vec<Fact> = graph.of_first(MEMBER, held.a).collect();
+    let is_alike = |x: &u8| *x != held.a && classes.iter().all(|of| graph.has(member(*x, of.b)));
+    let alike: Vec<u8> = graph.of_kind(INDIVIDUAL).map(|known| known.a).filter(is_alike).collect();
+    (!alike.is_empty()).then(|| value(random.pick(&alike), held.b, held.c))
 }
 
 /// A fact taken out or put in.
@@ -93,7 +111,8 @@ pub fn marked(random: &mut Random, ids: &Ids) -> Graph {
 /// values.
 pub fn filled(random: &mut Random, count: usize) -> Graph {
     let start = grown(random, &MANY, 120, count / 2);
-    let more_classes: Vec<Fact> = (13..20).map(class).collect();
+    // With Resource 17 classes at least: 120 individuals can be in them by 2,160 facts.
+    let more_classes: Vec<Fact> = (13..20).chain(28..37).map(class).collect();
     let mut graph = smallest(&start, &more_classes).expect("the ids are free");
     while graph.len() < count {
         let members = some_members(random, &graph, 1 + (count - graph.len()) / 30);
@@ -128,7 +147,7 @@ fn loose_literal(graph: &Graph) -> Option<Fact> {
 /// individuals and 7 properties with Resource at both ends have room for 2,023 of them. With any other
 /// numbers of individuals, properties and literals either the values find no room or what they need leaves
 /// fewer bytes to them.
-pub const LONGEST_CONSISTENT: usize = 6_125;
+pub const LONGEST_CONSISTENT: usize = 6_131;
 
 /// The graph, with as many values as make its image that long, and literals for the last one or two bytes.
 /// They are of individuals and properties that only this function draws, and the image's length has to leave
@@ -180,4 +199,19 @@ pub fn overfull() -> Graph {
 /// The image of a graph that has one.
 pub fn image(graph: &Graph) -> Vec<u8> {
     image_of(graph).expect("the graph has an image")
+}
+
+/// The image with ten entries of a graph, without its facts of kind 11: if the graph meets the rules, so does
+/// what is read.
+pub fn ten_entries(graph: &Graph) -> Vec<u8> {
+    image_with(FEWER_ENTRIES, graph).expect("the graph has an image")
+}
+
+/// An image of the graph, one in four with ten entries.
+pub fn some_image_of(random: &mut Random, graph: &Graph) -> Vec<u8> {
+    if random.is_one_in(4) {
+        ten_entries(graph)
+    } else {
+        image(graph)
+    }
 }

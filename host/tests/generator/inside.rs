@@ -21,6 +21,7 @@ const ODD: &[[u8; 4]] = &[
     [VALUE, 8, 0, 5],
     [VALUE, 8, 9, 0],
     [VALUE, 0, 0, 0],
+    [EXCLUSIVE, 0, 0, 0],
 ];
 
 /// Each with its name.
@@ -42,7 +43,7 @@ pub const INSIDE: &[(&str, Change)] = &[
     }),
     ("the line of any fact", |random, lines| {
         let [a, b, c] = [(); 3].map(|_| random.byte());
-        let kind = 1 + random.below(10) as u8;
+        let kind = 1 + random.below(11) as u8;
         let used = |place: usize, id: u8| if place < ids_of(kind) { id } else { 0 };
         put_fact(random, lines, fact(kind, used(0, a), used(1, b), used(2, c)));
     }),
@@ -62,6 +63,17 @@ pub const INSIDE: &[(&str, Change)] = &[
         let subjects = lines.iter().filter_map(|line| line.strip_prefix("<urn:id:")?.split('>').next());
         let term = format!("\"{}\"", random.pick(&subjects.collect::<Vec<&str>>()));
         put_value(random, lines, &term);
+    }),
+    ("an exclusive property more", |random, lines| {
+        let subject = 2 + random.below(12);
+        put_fact(random, lines, exclusive(subject as u8));
+    }),
+    ("another holder", |random, lines| {
+        let terms: Vec<String> = any(random, lines).split(' ').skip(1).map(str::to_string).collect();
+        if terms[0].starts_with("<urn:id:") {
+            let subject = 2 + random.below(12);
+            put(random, lines, &format!("<urn:id:{subject}> {}", terms.join(" ")));
+        }
     }),
     ("a value more", |random, lines| {
         let n = 2 + random.below(254);

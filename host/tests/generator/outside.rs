@@ -51,7 +51,16 @@ const NO_TERMS: &[&str] = &[
     "<urn:id:7>>",
     "<urn:id7>",
     "<urn:ids:7>",
-    "<urn:mark:excl>",
+    "<urn:mark:excl",
+    "<urn:mark:exc>",
+    "<urn:mark:excl2>",
+    "<urn:mark:exclusive>",
+    "<urn:mark:>",
+    "<urn:mark:7>",
+    "<urn:mark:excl/>",
+    "<urn:id:excl>",
+    "urn:mark:excl",
+    "\"<urn:mark:excl>\"",
     "<http://www.w3.org/2000/01/rdf-schema#>",
     "<http://www.w3.org/2000/01/rdf-schema#Resource",
     "<http://www.w3.org/2000/01/rdf-schema#Resources>",
@@ -85,7 +94,7 @@ const QUOTES: &[&str] =
 const NAMED: &[Term] = &[Term::Type, Term::SubclassOf, Term::SubpropertyOf, Term::Domain, Term::Range];
 
 /// The terms that stand only as objects of rdf:type.
-const SORTS: &[Term] = &[Term::Class, Term::Property];
+const SORTS: &[Term] = &[Term::Class, Term::Property, Term::Exclusive];
 
 /// Each with its name. A text without lines gets one first.
 pub const OUTSIDE: &[(&str, Change)] = &[
@@ -186,16 +195,17 @@ pub const OUTSIDE: &[(&str, Change)] = &[
         let name = random.pick(NAMED);
         replace_term(random, lines, &[0, 2], &name.text());
     }),
-    ("Class or Property as subject or predicate", |random, lines| {
+    ("Class, Property or the name of Excl as subject or predicate", |random, lines| {
         let name = random.pick(SORTS);
         replace_term(random, lines, &[0, 1], &name.text());
     }),
-    ("Class or Property as object of another than rdf:type", |random, lines| {
+    ("Class, Property or the name of Excl as object of another than rdf:type", |random, lines| {
         let (predicate, name) = (other_than(random, Term::Type), random.pick(SORTS));
         put_terms(random, lines, &predicate.text(), &name.text());
     }),
-    ("the exclusive mark", |random, lines| {
-        put_terms(random, lines, &Term::Type.text(), "<urn:mark:excl>");
+    ("Excl of the mark", |random, lines| {
+        let [subject, predicate, object] = [Term::Mark, Term::Type, Term::Exclusive].map(Term::text);
+        put(random, lines, &format!("{subject} {predicate} {object} .\n"));
     }),
     ("an object IRI and the same literal", |random, lines| {
         let n = 2 + random.below(254);

@@ -1,7 +1,7 @@
 //! Scripts for the program `run_calls`: tables good and bad, tickets, lists, images whole and damaged.
 
 use super::damage::damaged;
-use super::graphs::{disturbed, grown, image, marked};
+use super::graphs::{disturbed, grown, marked, some_image_of};
 use super::tickets::{any_ticket, bad_ticket, list, ticket, Ids};
 use super::Random;
 use crate::independent::graph::Graph;
@@ -72,8 +72,8 @@ fn command(random: &mut Random, ids: &Ids) -> String {
         0..=6 => format!("apply {}", hexadecimal(&any_ticket(random, ids))),
         7 | 8 => list_line(random, ids),
         9..=11 => format!("read {}", hexadecimal(&some_image(random, ids))),
-        12 => format!("write {:04x}", random.pick(&[0, 62, 63, 80, 100, 150, 250, 700])),
-        13 | 14 => format!("body {:04x} {}", random.below(13), hexadecimal(&some_image(random, ids))),
+        12 => format!("write {:04x}", random.pick(&[0, 62, 68, 69, 80, 100, 150, 250, 700])),
+        13 | 14 => format!("body {:04x} {}", random.below(14), hexadecimal(&some_image(random, ids))),
         15 | 16 => format!("lookup {:08x}", some_word(random, ids)),
         17 => "check".to_string(),
         _ => other_line(random),
@@ -109,7 +109,8 @@ fn bad_or_good(random: &mut Random, ids: &Ids) -> [u8; 5] {
 
 /// An image, half of the time damaged.
 fn some_image(random: &mut Random, ids: &Ids) -> Vec<u8> {
-    let whole = image(&some_graph(random, ids));
+    let graph = some_graph(random, ids);
+    let whole = some_image_of(random, &graph);
     if random.is_one_in(2) {
         damaged(random, &whole)
     } else {

@@ -82,10 +82,13 @@ fn link(random: &mut Random, ids: &Ids, sort: (u8, u8)) -> [u8; 3] {
     }
 }
 
-/// A ticket of five bytes, well formed but for strays.
+/// A ticket of five bytes, well formed but for strays. One in four is about exclusive properties.
 pub fn ticket(random: &mut Random, ids: &Ids) -> [u8; 5] {
+    if random.is_one_in(4) {
+        return holder_ticket(random, ids);
+    }
     let operation = if random.is_one_in(ids.deletions) { 2 } else { 1 };
-    let kind = random.pick(&[1, 2, 2, 3, 4, 5, 5, 5, 6, 6, 6, 9, 9, 9, 10, 10, 10, 10]);
+    let kind = random.pick(&[1, 2, 2, 3, 4, 5, 5, 5, 6, 6, 6, 9, 9, 9, 10, 10, 10, 10, 11, 11]);
     let [a, b, c] = match kind {
         1 => [class(random, ids), 0, 0],
         2 if operation == 2 => [id(random, ids, ids.properties), 0, 0],
@@ -96,9 +99,54 @@ pub fn ticket(random: &mut Random, ids: &Ids) -> [u8; 5] {
         5 => link(random, ids, ids.classes),
         6 => link(random, ids, ids.properties),
         9 => member(random, ids),
-        _ => value(random, ids),
+        10 => value(random, ids),
+        _ => [id(random, ids, ids.properties), 0, 0],
     };
     [operation, kind, a, b, c]
+}
+
+/// The ids of a sort cut down to the first so many.
+fn first_of((first, last): (u8, u8), count: u8) -> (u8, u8) {
+    (first, last.min(first + count - 1))
+}
+
+/// A ticket about exclusive properties: four properties, one under the other, and four individuals that share
+/// a few values. Links, Excl and values come and go: a value meets another holder at once or higher up.
+pub fn holder_ticket(random: &mut Random, ids: &Ids) -> [u8; 5] {
+    let (properties, individuals) = (first_of(ids.properties, 4), first_of(ids.individuals, 4));
+    let operation = if random.is_one_in(ids.deletions) { 2 } else { 1 };
+    let property = id(random, ids, properties);
+    match random.below(14) {
+        0..=2 if operation == 1 => [1, 2, property, 0, random.pick(&[0, 0, 0, 1])],
+        0..=2 => [2, 2, property, 0, 0],
+        3 | 4 => {
+            let [a, b, c] = link(random, ids, properties);
+            [operation, 6, a, b, c]
+        }
+        5..=7 => [operation, 11, exclusive_id(random, ids, property), 0, 0],
+        _ => {
+            let shared = random.pick(&[first_of(ids.literals, 2), first_of(individuals, 2)]);
+            [operation, 10, id(random, ids, individuals), id(random, ids, shared), property]
+        }
+    }
+}
+
+/// The property, or now and then an id of another sort.
+fn exclusive_id(random: &mut Random, ids: &Ids, property: u8) -> u8 {
+    if !random.is_one_in(10) {
+        return property;
+    }
+    let sort = random.pick(&[ids.classes, ids.individuals, ids.literals, (0, 255)]);
+    id(random, ids, sort)
+}
+
+/// So many tickets about exclusive properties; the first ones make these, all to individuals or all to
+/// literals.
+pub fn holders(random: &mut Random, ids: &Ids, count: usize) -> Vec<u8> {
+    let ((first, last), range) = (first_of(ids.properties, 4), random.pick(&[0, 1]));
+    let made = (first..=last).map(|property| [1, 2, property, 0, range]).collect::<Vec<[u8; 5]>>();
+    let drawn = (0..count).map(|_| holder_ticket(random, ids)).collect::<Vec<[u8; 5]>>();
+    [made, drawn].concat().concat()
 }
 
 /// An individual in a class, or now and then in what is hardly one.
@@ -157,7 +205,7 @@ pub fn bad_ticket(random: &mut Random, ids: &Ids) -> [u8; 5] {
     let mut bytes = ticket(random, ids);
     for _ in 0..1 + random.below(2) {
         let (place, free) = (random.below(5), random.byte());
-        bytes[place] = if random.is_one_in(2) { free % 12 } else { free };
+        bytes[place] = if random.is_one_in(2) { free % 13 } else { free };
     }
     bytes
 }
@@ -165,7 +213,7 @@ pub fn bad_ticket(random: &mut Random, ids: &Ids) -> [u8; 5] {
 /// Bytes of any length up to eight, mostly not five.
 pub fn short_ticket(random: &mut Random) -> Vec<u8> {
     let length = random.below(9);
-    (0..length).map(|_| random.byte() % 11).collect()
+    (0..length).map(|_| random.byte() % 12).collect()
 }
 
 /// A ticket of any sort: most are good, some are bad, some have another length.

@@ -82,6 +82,7 @@ pub fn full(random: &mut Random, count: usize) -> Graph {
     let mut known = vec![property(107), domain(107, RESOURCE), range(107, MARK)];
     known.extend(individuals.clone().map(individual).chain(properties.clone().flat_map(ends)));
     known.extend(literals.flat_map(|n| [literal(n), value(80, n, 107)]));
+    known.push(exclusive(107));
     let start = without_lone_literals(&grown(random, &MANY, 40, count / 4));
     let mut graph = smallest(&start, &known).expect("the ids are free");
     let pairs = individuals.clone().flat_map(|x| individuals.clone().map(move |y| (x, y)));
@@ -98,7 +99,7 @@ pub fn full(random: &mut Random, count: usize) -> Graph {
 pub const LONGEST_CONSISTENT_TEXT: usize = 189_256;
 
 /// A graph with a text of that length: every id but Resource's a property between Resource and Resource, and
-/// links between those of three digits.
+/// links between those of three digits. The line of Excl is as long as that of such a link.
 pub fn longest_text() -> Graph {
     let ends = |p: u8| [property(p), domain(p, RESOURCE), range(p, RESOURCE)];
     let links = (100..=245).flat_map(|low| (246..=255).map(move |high| subproperty(low, high)));

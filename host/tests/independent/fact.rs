@@ -18,6 +18,7 @@ pub const DOMAIN: u8 = 7;
 pub const RANGE: u8 = 8;
 pub const MEMBER: u8 = 9;
 pub const VALUE: u8 = 10;
+pub const EXCLUSIVE: u8 = 11;
 
 /// A kind and its ids; unused ids are 0.
 #[derive(Clone, Copy, PartialEq, Eq, Debug)]
@@ -31,7 +32,7 @@ pub struct Fact {
 /// How many ids a fact of the kind has; 0 where there is no such kind.
 pub fn ids_of(kind: u8) -> usize {
     match kind {
-        CLASS..=LITERAL => 1,
+        CLASS..=LITERAL | EXCLUSIVE => 1,
         SUBCLASS..=MEMBER => 2,
         VALUE => 3,
         _ => 0,
@@ -82,6 +83,10 @@ pub fn value(a: u8, b: u8, c: u8) -> Fact {
     fact(VALUE, a, b, c)
 }
 
+pub fn exclusive(a: u8) -> Fact {
+    fact(EXCLUSIVE, a, 0, 0)
+}
+
 /// The order of facts is that of their words.
 impl Ord for Fact {
     fn cmp(&self, other: &Fact) -> Ordering {
@@ -113,7 +118,7 @@ impl Fact {
         found.is_fact().then_some(found)
     }
 
-    /// The kind is 1 to 10, unused ids are 0, and the mark stands only as b of a range.
+    /// The kind is 1 to 11, unused ids are 0, and the mark stands only as b of a range.
     pub fn is_fact(&self) -> bool {
         let used = ids_of(self.kind);
         let unused_are_zero = self.ids()[used..].iter().all(|id| *id == 0);

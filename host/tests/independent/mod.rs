@@ -1,4 +1,4 @@
-//! The text of document 01, and of Asks 1 and 2 of document 02, in plain Rust, which the tests hold beside
+//! The text of document 01, and of Asks 1 to 3 of document 02, in plain Rust, which the tests hold beside
 //! the proved calls. No code is shared with these: a graph is a set of facts, and each rule is the list of
 //! demands that it makes of a graph. An insertion applies the rules again and again until they ask for
 //! nothing new; a deletion searches for the largest part and tries every choice that the rules leave; `brute`

@@ -3,12 +3,13 @@
 use super::fact::*;
 use super::graph::Graph;
 
-/// The classes and properties that an insertion waits for: PSub and PI for the properties they use, CI for
-/// its class.
+/// The classes and properties that an insertion waits for: PSub, PI and Excl for the properties they use, CI
+/// for its class.
 fn awaited([_, kind, a, b, c]: [u8; 5]) -> Vec<Fact> {
     match kind {
         SUBPROPERTY => vec![property(a), property(b)],
         VALUE => vec![property(c)],
+        EXCLUSIVE => vec![property(a)],
         MEMBER => vec![class(b)],
         _ => Vec::new(),
     }

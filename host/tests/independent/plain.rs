@@ -1,5 +1,5 @@
-//! The rules once more, each read off document 01 as a statement about all ids of the graph. Very slow; it
-//! tests `rules`.
+//! The rules once more, each read off documents 01 and 02 as a statement about all ids of the graph. Very
+//! slow; it tests `rules`.
 
 use super::fact::*;
 use super::graph::Graph;
@@ -7,8 +7,8 @@ use super::graph::Graph;
 /// A rule: how many of the ids x, y, z, w it speaks of, and whether the graph meets it for these.
 type Rule = (usize, fn(&Graph, [u8; 4]) -> bool);
 
-/// In document 01's order.
-const RULES: [Rule; 28] = [
+/// In document 01's order, then the two of document 02's Ask 3.
+const RULES: [Rule; 30] = [
     // 4, 5, 6
     (1, |g, [x, ..]| !(g.has(class(x)) && g.has(property(x)))),
     (1, |g, [x, ..]| !(g.has(class(x)) && g.has(individual(x)))),
@@ -52,6 +52,9 @@ const RULES: [Rule; 28] = [
     (1, |g, [x, ..]| !g.has(literal(x)) || !(g.has(class(x)) || g.has(property(x)) || g.has(individual(x)))),
     (3, |g, [x, y, z, _]| !(g.has(range(z, MARK)) && g.has(value(x, y, z))) || g.has(literal(y))),
     (4, |g, [x, y, z, w]| !links_ranges(g, x, y, z, w) || (z == MARK) == (w == MARK)),
+    // E1, E2
+    (1, |g, [x, ..]| !g.has(exclusive(x)) || g.has(property(x))),
+    (4, |g, [x, y, z, w]| !(g.has(exclusive(z)) && g.has(value(x, y, z)) && g.has(value(w, y, z))) || x == w),
 ];
 
 fn value_has_ends(g: &Graph, x: u8, y: u8, z: u8) -> bool {

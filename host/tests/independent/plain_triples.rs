@@ -16,7 +16,7 @@ fn ids_in(line: &str) -> BTreeSet<u8> {
 
 /// Every fact over these ids, a PI fact once with its value as an IRI and once as a literal.
 fn each_fact(ids: &BTreeSet<u8>) -> impl Iterator<Item = (Fact, bool)> + '_ {
-    let all = (CLASS..=VALUE).flat_map(move |kind| {
+    let all = (CLASS..=EXCLUSIVE).flat_map(move |kind| {
         let triples = ids
             .iter()
             .flat_map(move |a| ids.iter().flat_map(move |b| ids.iter().map(move |c| fact(kind, *a, *b, *c))));

@@ -1,7 +1,7 @@
 //! What the programs print: one and two, and the three that write, read and check triples.
 
 use super::host::host_read_triples;
-use super::image::read;
+use super::image::{read, CONTENTS_LENGTH};
 use super::list::TICKET_LENGTH;
 use super::table::{facts_of, fresh, MOST_WORDS};
 use super::ticket::{apply, Answer};
@@ -91,8 +91,8 @@ pub fn print_image(input: &[u8]) -> Vec<u8> {
     if input.len() > LONGEST_TAKEN {
         return Vec::new();
     }
-    // Two bytes for the contents' head, six for each entry, at most three for each fact.
-    let mut output = vec![0; 2 + 10 * 6 + 3 * MOST_WORDS];
+    // After the contents, at most three bytes for each fact.
+    let mut output = vec![0; CONTENTS_LENGTH + 3 * MOST_WORDS];
     let number = host_read_triples(input, &mut output);
     // Refused, the image has no length.
     output.truncate((number >> 48) as usize);

@@ -3,7 +3,7 @@
 
 use super::image::{body, read, write};
 use super::list::apply_list;
-use super::rules::first_broken;
+use super::rules::{first_broken, name_of};
 use super::table::{check, facts_of, fresh, lookup};
 use super::ticket::apply;
 
@@ -115,7 +115,7 @@ impl State {
         &self.table[..last.map_or(0, |place| place + 1)]
     }
 
-    /// The answer, and after a 3 the first rule that is broken; H1 to H4 come last.
+    /// The answer, and after a 3 the first rule that is broken; H1 to H4, E1 and E2 come last.
     fn check(&self) -> String {
         let answer = check(&self.table);
         if answer != 3 {
@@ -123,10 +123,7 @@ impl State {
         }
         let graph = facts_of(&self.table).expect("the table is laid out");
         let first = first_broken(&graph).expect("the table is not consistent");
-        match first {
-            101.. => format!(" 3 H{}", first - 100),
-            _ => format!(" 3 {first}"),
-        }
+        format!(" 3 {}", name_of(first))
     }
 
     fn lookup(&self, bytes: &[u8]) -> String {

@@ -90,11 +90,12 @@ pub fn is_guarded(fact: Fact) -> bool {
     fact == class(RESOURCE) || (matches!(fact.kind, SUBCLASS | MEMBER) && fact.b == RESOURCE)
 }
 
-/// Refusal 9: PSub uses a and b, PI uses c.
+/// Refusal 9: PSub uses a and b, PI uses c, Excl uses a.
 fn uses_unknown_property(graph: &Graph, asked: &[Fact]) -> bool {
     asked.iter().any(|fact| match fact.kind {
         SUBPROPERTY => !graph.has(property(fact.a)) || !graph.has(property(fact.b)),
         VALUE => !graph.has(property(fact.c)),
+        EXCLUSIVE => !graph.has(property(fact.a)),
         _ => false,
     })
 }

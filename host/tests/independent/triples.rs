@@ -1,5 +1,6 @@
-//! Triples: the text of a table and the table of a text, by Ask 1 of document 02. A text is cut at newlines
-//! and blanks, each term is looked up among all terms there are, and the facts are gathered in a set.
+//! Triples: the text of a table and the table of a text, by Asks 1 and 3 of document 02. A text is cut at
+//! newlines and blanks, each term is looked up among all terms there are, and the facts are gathered in a
+//! set.
 
 use super::fact::*;
 use super::graph::Graph;
@@ -17,6 +18,7 @@ pub enum Term {
     Type,
     Class,
     Property,
+    Exclusive,
     SubclassOf,
     SubpropertyOf,
     Domain,
@@ -31,6 +33,7 @@ impl Term {
             Term::Type,
             Term::Class,
             Term::Property,
+            Term::Exclusive,
             Term::SubclassOf,
             Term::SubpropertyOf,
             Term::Domain,
@@ -51,6 +54,7 @@ impl Term {
             Term::Type => syntax("type"),
             Term::Class => schema("Class"),
             Term::Property => syntax("Property"),
+            Term::Exclusive => "<urn:mark:excl>".to_string(),
             Term::SubclassOf => schema("subClassOf"),
             Term::SubpropertyOf => schema("subPropertyOf"),
             Term::Domain => schema("domain"),
@@ -89,6 +93,7 @@ pub fn terms_of(fact: Fact, is_literal: bool) -> Option<[Term; 3]> {
         MEMBER => [a, Term::Type, b],
         VALUE if is_literal => [a, c, Term::Literal(fact.b)],
         VALUE => [a, c, b],
+        EXCLUSIVE => [a, Term::Type, Term::Exclusive],
         _ => return None,
     })
 }
@@ -118,6 +123,7 @@ fn fact_of([subject, predicate, object]: [Term; 3]) -> Option<Fact> {
     Some(match (predicate, object) {
         (Term::Type, Term::Class) => class(a),
         (Term::Type, Term::Property) => property(a),
+        (Term::Type, Term::Exclusive) => exclusive(a),
         (Term::Type, Term::Id(b)) => member(a, b),
         (Term::SubclassOf, Term::Id(b)) => subclass(a, b),
         (Term::SubpropertyOf, Term::Id(b)) => subproperty(a, b),

@@ -12,7 +12,7 @@ use crate::same::assert_same;
 use vimelosa_host::LONGEST_IMAGE;
 
 /// The shortest image of a consistent graph, lengths around a page of 4,096 bytes, and the longest.
-const LENGTHS: [usize; 6] = [63, 4_095, 4_096, 4_097, 4_988, LONGEST_CONSISTENT];
+const LENGTHS: [usize; 6] = [69, 4_095, 4_096, 4_097, 4_988, LONGEST_CONSISTENT];
 
 /// A good image of each length: of trees with properties, members and values where there is room, of values
 /// alone where there is not.
@@ -22,7 +22,7 @@ fn good_images(random: &mut Random) -> Vec<Vec<u8>> {
 
 fn graph_of_length(random: &mut Random, length: usize) -> Graph {
     match length {
-        63 => fresh_graph(),
+        69 => fresh_graph(),
         LONGEST_CONSISTENT => of_length(random, &fresh_graph(), length),
         _ => {
             let start = grown(random, &MANY, 100, 400);
@@ -38,7 +38,7 @@ fn bad_images(random: &mut Random) -> Vec<Vec<u8>> {
     for good in good_images(random) {
         let longer = [good.len() + 1, LONGEST_IMAGE, LONGEST_IMAGE + 1, LONGEST_IMAGE + 2, 70_000];
         bad.extend(longer.map(|length| with_length(&good, length)));
-        let shorter = [good.len() - 1, good.len() / 2, 4_095, 4_096, 62, 61, 1];
+        let shorter = [good.len() - 1, good.len() / 2, 4_095, 4_096, 68, 67, 62, 61, 1];
         bad.extend(
             shorter.iter().filter(|length| **length < good.len()).map(|length| with_length(&good, *length)),
         );
@@ -78,7 +78,7 @@ fn images_have_their_lengths_and_facts() {
     assert!(good[1..].iter().all(|image| facts(image) > 1_024));
     let bad = bad_images(&mut random);
     assert!(bad.iter().all(|image| print_facts(image).is_empty()));
-    assert!([62, 6_206, 6_207, 6_208, 70_000]
+    assert!([68, 6_212, 6_213, 6_214, 70_000]
         .iter()
         .all(|length| bad.iter().any(|image| image.len() == *length)));
 }

@@ -24,7 +24,7 @@ pub struct PaperCase {
 }
 
 /// Tickets on a fresh table of so many words, the answer, added and removed of each, and the words left.
-pub struct ClassCase {
+pub struct TicketCase {
     pub name: &'static str,
     pub words: usize,
     pub list: Vec<u8>,
@@ -38,6 +38,18 @@ pub enum TriplesCase {
     Read { name: &'static str, text: Vec<u8>, lent: usize, answer: u8, words: Vec<u32> },
     /// The words of a table's facts as text to so many bytes.
     Write { name: &'static str, words: Vec<u32>, lent: usize, answer: u8, text: Vec<u8> },
+}
+
+/// A call for tables and images: what it is given, what it is lent, its answer, and what it leaves.
+pub enum ImageCase {
+    /// The words of a table, with zeros to so many; after a 3, the first rule that is broken.
+    Check { name: &'static str, words: Vec<u32>, lent: usize, answer: u8, broken: Option<&'static str> },
+    /// The words of a table's facts to an image of so many bytes.
+    Write { name: &'static str, words: Vec<u32>, lent: usize, answer: u8, image: Vec<u8> },
+    /// An image into so many words.
+    Read { name: &'static str, image: Vec<u8>, lent: usize, answer: u8, words: Vec<u32> },
+    /// The body of a kind: the place where the part starts, and its bytes.
+    Body { name: &'static str, image: Vec<u8>, kind: u8, start: usize, part: Vec<u8> },
 }
 
 /// A file of the W3C N-Triples suite, and the answer of reading it into 2,048 words.
@@ -71,14 +83,41 @@ pub fn paper_cases() -> Vec<PaperCase> {
         .collect()
 }
 
-pub fn class_cases() -> Vec<ClassCase> {
-    lines(include_str!("../../../tests/vectors/classes.tsv"))
-        .map(|columns| ClassCase {
+pub fn class_cases() -> Vec<TicketCase> {
+    ticket_cases(include_str!("../../../tests/vectors/classes.tsv"))
+}
+
+pub fn exclusive_cases() -> Vec<TicketCase> {
+    ticket_cases(include_str!("../../../tests/vectors/exclusive.tsv"))
+}
+
+fn ticket_cases(text: &'static str) -> Vec<TicketCase> {
+    lines(text)
+        .map(|columns| TicketCase {
             name: columns[0],
             words: number(columns[1]),
             list: tickets(columns[2]),
             answers: parts(columns[3]).map(answer).collect(),
             left: words(columns[4]),
+        })
+        .collect()
+}
+
+pub fn image_cases() -> Vec<ImageCase> {
+    lines(include_str!("../../../tests/vectors/images.tsv"))
+        .map(|columns| {
+            let (name, given, left) = (columns[0], columns[2], columns[5]);
+            let (lent, found) = (number(columns[3]), number(columns[4]));
+            let (kind, answer) = (lent as u8, found as u8);
+            match columns[1] {
+                "check" => ImageCase::Check { name, words: words(given), lent, answer, broken: some(left) },
+                "write" => ImageCase::Write { name, words: words(given), lent, answer, image: image(left) },
+                "read" => ImageCase::Read { name, image: image(given), lent, answer, words: words(left) },
+                "body" => {
+                    ImageCase::Body { name, image: image(given), kind, start: found, part: image(left) }
+                }
+                other => panic!("there is no call {other}"),
+            }
         })
         .collect()
 }
@@ -146,6 +185,11 @@ pub fn bytes(text: &str) -> Vec<u8> {
     (0..text.len()).step_by(2).map(pair).collect()
 }
 
+/// The bytes of an image, or of a part of it.
+fn image(column: &str) -> Vec<u8> {
+    some(column).map_or(Vec::new(), bytes)
+}
+
 fn words(column: &str) -> Vec<u32> {
     let word = |text: &str| u32::from_str_radix(text, 16).expect("a hexadecimal word");
     some(column).map_or(Vec::new(), |text| parts(text).map(word).collect())
@@ -189,6 +233,7 @@ fn named(text_from: &str) -> (usize, Vec<u8>) {
         "P" => b"<http://www.w3.org/1999/02/22-rdf-syntax-ns#Property>".to_vec(),
         "R" => b"<http://www.w3.org/2000/01/rdf-schema#Resource>".to_vec(),
         "L" => b"<http://www.w3.org/2000/01/rdf-schema#Literal>".to_vec(),
+        "excl" => b"<urn:mark:excl>".to_vec(),
         "C" => b"<http://www.w3.org/2000/01/rdf-schema#Class>".to_vec(),
         "subClassOf" | "subPropertyOf" | "domain" | "range" => {
             format!("<http://www.w3.org/2000/01/rdf-schema#{name}>").into_bytes()

@@ -124,12 +124,13 @@ pub fn ran(output: Output) -> Ran {
     }
 }
 
-/// An image of these bodies, kinds 1 to 10 in turn, whether or not its graph is consistent.
-pub fn image_of(bodies: [&[u8]; 10]) -> Vec<u8> {
-    let mut image = vec![1, 10];
-    let mut start = 62;
+/// An image of these bodies, each kind's in turn from 1 on, whether or not its graph is consistent. With ten
+/// bodies it is as releases before 0.13.0 wrote it.
+pub fn image_of<const N: usize>(bodies: [&[u8]; N]) -> Vec<u8> {
+    let mut image = vec![1, N as u8];
+    let mut start = 2 + 6 * N;
     for (place, body) in bodies.iter().enumerate() {
-        let width = [1, 1, 1, 1, 2, 2, 2, 2, 2, 3][place];
+        let width = [1, 1, 1, 1, 2, 2, 2, 2, 2, 3, 1][place];
         image.extend([place as u8 + 1, width as u8]);
         image.extend((start as u16).to_le_bytes());
         image.extend(((body.len() / width) as u16).to_le_bytes());

@@ -14,6 +14,13 @@ pub trait Lookups {
     fn domain_of(&self, p: u8) -> u8;
     /// The range of a property of the table, which may be the mark.
     fn range_of(&self, p: u8) -> u8;
+    /// Whether two individuals have the same value for a property.
+    fn has_two_holders(&self, p: u8) -> bool;
+    /// Whether another individual than x has the value y for an exclusive property at or over p.
+    fn is_taken(&self, x: u8, y: u8, p: u8) -> bool;
+    /// Whether two individuals would have the same value for an exclusive property at or over q if p came
+    /// under q.
+    fn values_meet(&self, p: u8, q: u8) -> bool;
 }
 
 /// Refusal 9: the insertion uses a property that is not in the table.
@@ -21,6 +28,7 @@ pub fn uses_unknown_property(table: &impl Lookups, t: &Ticket) -> bool {
     match t.kind {
         SUBPROPERTY => !table.is(PROPERTY, t.a) || !table.is(PROPERTY, t.b),
         VALUE => !table.is(PROPERTY, t.c),
+        EXCLUSIVE => !table.is(PROPERTY, t.a),
         _ => false,
     }
 }
@@ -37,9 +45,10 @@ pub fn clashes(table: &impl Lookups, t: &Ticket) -> bool {
         CLASS | INDIVIDUAL | LITERAL => is_other(table, t.kind, t.a),
         PROPERTY => property_clashes(table, t),
         SUBCLASS => subclass_clashes(table, t.a, t.b),
-        SUBPROPERTY => subproperty_clashes(table, t.a, t.b),
+        SUBPROPERTY => subproperty_clashes(table, t.a, t.b) || table.values_meet(t.a, t.b),
         MEMBER => is_other(table, INDIVIDUAL, t.a),
-        _ => value_clashes(table, t),
+        EXCLUSIVE => table.has_two_holders(t.a),
+        _ => value_clashes(table, t) || table.is_taken(t.a, t.b, t.c),
     }
 }
 

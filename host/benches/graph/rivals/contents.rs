@@ -1,14 +1,23 @@
 //! The contents of an image: how many facts of each kind its bodies hold.
 
-use super::fact::width;
+use super::fact::{width, EXCLUSIVE, VALUE};
 
-/// Bytes before the first body: edition, number of entries, and six for each kind.
-pub const CONTENTS_LENGTH: usize = 62;
 const EDITION: u8 = 1;
-const KINDS: u8 = 10;
+
+/// The kinds of an image that is written. One that is read may lack the last.
+const KINDS: u8 = EXCLUSIVE;
+const OLD_KINDS: u8 = VALUE;
+
+/// Bytes before the first body of an image that is written.
+pub const CONTENTS_LENGTH: usize = contents_length(KINDS);
 
 /// The facts of each kind, by kind; the place 0 is unused.
-pub type Counts = [usize; 11];
+pub type Counts = [usize; 1 + KINDS as usize];
+
+/// Edition, number of entries, and six bytes for each kind.
+const fn contents_length(kinds: u8) -> usize {
+    2 + 6 * kinds as usize
+}
 
 /// How long the image of so many facts is.
 pub fn image_length(counts: &Counts) -> usize {
@@ -16,15 +25,17 @@ pub fn image_length(counts: &Counts) -> usize {
     CONTENTS_LENGTH + bodies
 }
 
-/// The counts of an image, if its contents are as they have to be and the bodies end where it ends.
-pub fn counts_of(image: &[u8]) -> Option<Counts> {
-    let contents = image.get(..CONTENTS_LENGTH)?;
-    if contents[..2] != [EDITION, KINDS] {
-        return None;
-    }
-    let mut counts = [0; 11];
-    let mut start = CONTENTS_LENGTH;
-    for (kind, entry) in (1..=KINDS).zip(contents[2..].chunks_exact(6)) {
+/// The counts of an image and its bodies, if its contents are as they have to be and the bodies end where it
+/// ends.
+pub fn contents_of(image: &[u8]) -> Option<(Counts, &[u8])> {
+    let kinds = match image.get(..2)? {
+        [EDITION, kinds @ (OLD_KINDS | KINDS)] => *kinds,
+        _ => return None,
+    };
+    let contents = image.get(..contents_length(kinds))?;
+    let mut counts = Counts::default();
+    let mut start = contents.len();
+    for (kind, entry) in (1..=kinds).zip(contents[2..].chunks_exact(6)) {
         let stated = usize::from(u16::from_le_bytes([entry[2], entry[3]]));
         if entry[0] != kind || usize::from(entry[1]) != width(kind) || stated != start {
             return None;
@@ -33,7 +44,7 @@ pub fn counts_of(image: &[u8]) -> Option<Counts> {
         counts[usize::from(kind)] = count;
         start += width(kind) * count;
     }
-    (start == image.len()).then_some(counts)
+    (start == image.len()).then_some((counts, &image[contents.len()..]))
 }
 
 /// Writes the contents to the output, which has room for the image.

@@ -1,4 +1,4 @@
-//! Facts as words, with document 01's numbers.
+//! Facts as words, with the numbers of documents 01 and 02.
 
 use std::iter;
 
@@ -12,6 +12,7 @@ pub const DOMAIN: u8 = 7;
 pub const RANGE: u8 = 8;
 pub const MEMBER: u8 = 9;
 pub const VALUE: u8 = 10;
+pub const EXCLUSIVE: u8 = 11;
 
 /// rdfs:Resource.
 pub const RESOURCE: u8 = 0;
@@ -30,7 +31,7 @@ pub const fn word(kind: u8, a: u8, b: u8, c: u8) -> u32 {
 /// How many ids a fact of the kind has; 0 where there is no such kind.
 pub fn width(kind: u8) -> usize {
     match kind {
-        CLASS..=LITERAL => 1,
+        CLASS..=LITERAL | EXCLUSIVE => 1,
         SUBCLASS..=MEMBER => 2,
         VALUE => 3,
         _ => 0,
@@ -38,7 +39,7 @@ pub fn width(kind: u8) -> usize {
 }
 
 /// The bits of unused ids, by kind.
-const UNUSED: [u32; 11] = [!0, 0xffff, 0xffff, 0xffff, 0xffff, 0xff, 0xff, 0xff, 0xff, 0xff, 0];
+const UNUSED: [u32; 12] = [!0, 0xffff, 0xffff, 0xffff, 0xffff, 0xff, 0xff, 0xff, 0xff, 0xff, 0, 0xffff];
 
 /// The word is a fact: its kind is one, unused ids are 0, and the mark stands only as b of a range.
 pub fn is_fact(word: u32) -> bool {

@@ -36,6 +36,7 @@ pub fn is_consistent(loaded: &Loaded) -> bool {
         && members_go_up(loaded)
         && loaded.valued.is_part_of(&loaded.rows.sort(PROPERTY))
         && loaded.valued.ids().all(|p| values_fit(&loaded.rows, p))
+        && exclusive_have_one_holder(&loaded.rows)
 }
 
 /// Rules 4, 5, 6, H1 and H2.
@@ -105,6 +106,12 @@ fn members_go_up(loaded: &Loaded) -> bool {
             let held = rows.row(CLASSES, x);
             held.is_part_of(&classes) && held.ids().all(|y| rows.row(ABOVE, y).is_part_of(&held))
         })
+}
+
+/// Rules E1 and E2.
+fn exclusive_have_one_holder(rows: &Rows) -> bool {
+    let exclusive = rows.sort(EXCLUSIVE);
+    exclusive.is_part_of(&rows.sort(PROPERTY)) && !exclusive.ids().any(|p| rows.has_two_holders(p))
 }
 
 /// Rules 12, 24, 25, 27 and H3, of all values for a property.

@@ -9,12 +9,11 @@ use vimelosa_host::LONGEST_IMAGE;
 
 /// The rows of an image, or refusal 12 or 11.
 pub fn load(image: &[u8]) -> Result<Loaded, u8> {
-    let counts = counts_of(image).ok_or(12)?;
+    let (counts, mut rest) = contents_of(image).ok_or(12)?;
     let mut loaded = Loaded::empty();
     loaded.rows.count = counts.iter().sum();
     let is_short = loaded.rows.count <= MOST_WORDS;
-    let mut rest = &image[CONTENTS_LENGTH..];
-    for kind in CLASS..=VALUE {
+    for kind in CLASS..=EXCLUSIVE {
         let (body, after) = rest.split_at(width(kind) * counts[usize::from(kind)]);
         rest = after;
         let is_good = match width(kind) {
@@ -63,9 +62,9 @@ fn load_body(
 /// Writes the image and answers its length, or none if the output is too short.
 pub fn write(rows: &Rows, output: &mut [u8]) -> Option<usize> {
     let mut bodies = Vec::with_capacity(LONGEST_IMAGE);
-    let mut counts: Counts = [0; 11];
+    let mut counts = Counts::default();
     let mut done = 0;
-    for kind in CLASS..=VALUE {
+    for kind in CLASS..=EXCLUSIVE {
         push_body(rows, kind, &mut bodies);
         counts[usize::from(kind)] = (bodies.len() - done) / width(kind);
         done = bodies.len();

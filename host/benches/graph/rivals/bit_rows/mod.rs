@@ -46,9 +46,30 @@ impl Lookups for BitRows {
     fn range_of(&self, p: u8) -> u8 {
         self.rows.range[usize::from(p)]
     }
+
+    fn has_two_holders(&self, p: u8) -> bool {
+        self.rows.has_two_holders(p)
+    }
+
+    fn is_taken(&self, x: u8, y: u8, p: u8) -> bool {
+        let has_value = |z: u8, other: u8| other != x && self.rows.values(z, other).has(y);
+        let is_taken = |z: u8| self.rows.row(SUBJECTS, z).ids().any(|other| has_value(z, other));
+        self.exclusive_over(p).ids().any(is_taken)
+    }
+
+    fn values_meet(&self, p: u8, q: u8) -> bool {
+        let subjects = |z: u8| self.rows.row(SUBJECTS, p).or(self.rows.row(SUBJECTS, z));
+        let values = |x: u8, z: u8| self.rows.values(p, x).or(self.rows.values(z, x));
+        self.exclusive_over(q).ids().any(|z| meet(subjects(z).ids().map(|x| values(x, z))))
+    }
 }
 
 impl BitRows {
+    /// The property and those over it, as far as they are exclusive.
+    fn exclusive_over(&self, p: u8) -> Set {
+        self.rows.row(OVER, p).with(p).and(self.rows.sort(EXCLUSIVE))
+    }
+
     /// Whether the asked fact is there; of a property that is made, whether the property is.
     fn has(&self, kind: u8, a: u8, b: u8, c: u8) -> bool {
         match kind {

@@ -3,10 +3,10 @@
 use super::set::Set;
 use crate::rivals::fact::*;
 
-/// The ids of each sort, by kind; the first row is unused.
+/// The ids of each sort and the exclusive properties, by kind; the other rows up to there are unused.
 pub const SORTS: usize = 0;
 /// For each class, the classes over it and those under it.
-pub const ABOVE: usize = 8;
+pub const ABOVE: usize = 1 + EXCLUSIVE as usize;
 pub const BELOW: usize = ABOVE + 256;
 /// For each property, the properties over it and those under it.
 pub const OVER: usize = BELOW + 256;
@@ -159,7 +159,22 @@ impl Rows {
         }
     }
 
+    /// Whether two individuals have the same value for a property.
+    pub fn has_two_holders(&self, p: u8) -> bool {
+        meet(self.row(SUBJECTS, p).ids().map(|x| self.values(p, x)))
+    }
+
     pub fn is_class(&self, x: u8) -> bool {
         self.sort(CLASS).has(x)
     }
+}
+
+/// Whether two of some sets have an id in common.
+pub fn meet(mut sets: impl Iterator<Item = Set>) -> bool {
+    let mut seen = Set::EMPTY;
+    sets.any(|set| {
+        let is_met = !seen.and(set).is_empty();
+        seen = seen.or(set);
+        is_met
+    })
 }

@@ -33,6 +33,7 @@ struct Runs<'a> {
     ranges: &'a [u32],
     members: &'a [u32],
     values: &'a [u32],
+    exclusive: &'a [u32],
 }
 
 /// Whether ascending facts meet every rule.
@@ -48,6 +49,7 @@ pub fn is_consistent(words: &[u32]) -> bool {
         ranges: of_kind(words, RANGE),
         members: of_kind(words, MEMBER),
         values: of_kind(words, VALUE),
+        exclusive: of_kind(words, EXCLUSIVE),
     };
     runs.sorts_are_apart()
         && runs.links_have_their_ends()
@@ -59,6 +61,7 @@ pub fn is_consistent(words: &[u32]) -> bool {
         && runs.values.iter().all(|held| runs.has_members_at_its_ends(*held))
         && runs.members_go_up()
         && runs.values_go_up()
+        && runs.exclusive_have_one_holder()
 }
 
 /// Rules 18 and 19, or 20 and 21: what is over y is over x too, and nothing is over itself.
@@ -175,5 +178,17 @@ impl Runs<'_> {
             let carried = |link: &u32| has(held, word(VALUE, x, y, b_of(*link)));
             held.iter().all(|fact| of_first(self.subproperties, SUBPROPERTY, c_of(*fact)).iter().all(carried))
         })
+    }
+
+    /// Rules E1 and E2: the values of exclusive properties, without who has them, stand once each.
+    fn exclusive_have_one_holder(&self) -> bool {
+        if self.exclusive.is_empty() {
+            return true;
+        }
+        let is_exclusive = |held: &&u32| has(self.exclusive, word(EXCLUSIVE, c_of(**held), 0, 0));
+        let mut held: Vec<u32> = self.values.iter().filter(is_exclusive).map(|held| held & 0xffff).collect();
+        held.sort_unstable();
+        self.exclusive.iter().all(|known| self.is_property(a_of(*known)))
+            && held.windows(2).all(|pair| pair[0] != pair[1])
     }
 }

@@ -5,10 +5,9 @@ use crate::rivals::fact::*;
 
 /// The words of an image's facts, or none if it is malformed.
 pub fn words_of(image: &[u8]) -> Option<Vec<u32>> {
-    let counts = counts_of(image)?;
+    let (counts, mut rest) = contents_of(image)?;
     let mut words = Vec::with_capacity(MOST_WORDS + 1);
-    let mut rest = &image[CONTENTS_LENGTH..];
-    for kind in CLASS..=VALUE {
+    for kind in CLASS..=EXCLUSIVE {
         let (body, after) = rest.split_at(width(kind) * counts[usize::from(kind)]);
         match width(kind) {
             1 => words.extend(body.iter().map(|a| word(kind, *a, 0, 0))),
@@ -23,7 +22,7 @@ pub fn words_of(image: &[u8]) -> Option<Vec<u32>> {
 
 /// Writes the image of ascending words and answers its length, or none if the output is too short.
 pub fn write(words: &[u32], output: &mut [u8]) -> Option<usize> {
-    let mut counts: Counts = [0; 11];
+    let mut counts = Counts::default();
     for fact in words {
         counts[(fact >> 24) as usize] += 1;
     }

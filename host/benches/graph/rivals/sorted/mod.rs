@@ -75,12 +75,46 @@ impl Lookups for Sorted {
     fn range_of(&self, p: u8) -> u8 {
         end_of(&self.words, RANGE, p)
     }
+
+    fn has_two_holders(&self, p: u8) -> bool {
+        meet(self.values_of(p))
+    }
+
+    fn is_taken(&self, x: u8, y: u8, p: u8) -> bool {
+        let taken = |z: u8| self.values_of(z).any(|held| b_of(held) == y && a_of(held) != x);
+        self.exclusive_over(p).into_iter().any(taken)
+    }
+
+    fn values_meet(&self, p: u8, q: u8) -> bool {
+        self.exclusive_over(q).into_iter().any(|z| meet(self.values_of(p).chain(self.values_of(z))))
+    }
+}
+
+/// Whether two individuals have one value among these.
+fn meet(values: impl Iterator<Item = u32>) -> bool {
+    // The mark is no individual: it stands for none.
+    let mut holders = [MARK; 256];
+    let mut is_second = |x: u8, y: u8| {
+        let before = std::mem::replace(&mut holders[usize::from(y)], x);
+        before != MARK && before != x
+    };
+    values.into_iter().any(|held| is_second(a_of(held), b_of(held)))
 }
 
 impl Sorted {
     /// The words of the table's facts.
     pub fn words(&self) -> &[u32] {
         &self.words
+    }
+
+    fn values_of(&self, p: u8) -> impl Iterator<Item = u32> + '_ {
+        of_kind(&self.words, VALUE).iter().copied().filter(move |held| c_of(*held) == p)
+    }
+
+    /// The property and those over it, as far as they are exclusive.
+    fn exclusive_over(&self, p: u8) -> Vec<u8> {
+        let exclusive = of_kind(&self.words, EXCLUSIVE).iter().map(|known| a_of(*known));
+        exclusive.filter(|z| *z == p || self.is_subproperty(p, *z)).collect()
     }
 }
 

@@ -18,6 +18,9 @@ const SUB_PROPERTY_OF: &str = "<http://www.w3.org/2000/01/rdf-schema#subProperty
 const RDFS_DOMAIN: &str = "<http://www.w3.org/2000/01/rdf-schema#domain>";
 const RDFS_RANGE: &str = "<http://www.w3.org/2000/01/rdf-schema#range>";
 
+/// The type of exclusive properties.
+const EXCLUSIVE_TYPE: &str = "<urn:mark:excl>";
+
 /// What the IRI of an id other than 0 starts with.
 const ID: &str = "<urn:id:";
 

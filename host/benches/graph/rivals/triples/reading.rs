@@ -12,6 +12,7 @@ enum Term {
     Type,
     Class,
     Property,
+    Exclusive,
     /// The predicate of this kind's facts.
     Link(u8),
 }
@@ -56,6 +57,7 @@ fn fact_of(line: &str) -> Option<(u32, bool)> {
         (Term::Type, Term::Id(b)) => word(MEMBER, a, b, 0),
         (Term::Type, Term::Class) => word(CLASS, a, 0, 0),
         (Term::Type, Term::Property) => word(PROPERTY, a, 0, 0),
+        (Term::Type, Term::Exclusive) => word(EXCLUSIVE, a, 0, 0),
         (Term::Link(kind), Term::Id(b)) => word(kind, a, b, 0),
         (Term::Link(RANGE), Term::Mark) => word(RANGE, a, MARK, 0),
         _ => return None,
@@ -79,6 +81,7 @@ fn term_of(text: &str) -> Option<Term> {
         RDFS_RANGE => Some(Term::Link(RANGE)),
         RDFS_CLASS => Some(Term::Class),
         RDF_PROPERTY => Some(Term::Property),
+        EXCLUSIVE_TYPE => Some(Term::Exclusive),
         RDFS_LITERAL => Some(Term::Mark),
         _ => None,
     }

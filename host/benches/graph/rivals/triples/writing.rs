@@ -37,6 +37,7 @@ fn push_line(text: &mut String, fact: u32, literals: &Flags) {
     match kind {
         CLASS => text.push_str(RDFS_CLASS),
         PROPERTY => text.push_str(RDF_PROPERTY),
+        EXCLUSIVE => text.push_str(EXCLUSIVE_TYPE),
         RANGE if b == MARK => text.push_str(RDFS_LITERAL),
         VALUE if literals[usize::from(b)] => push_literal(text, b),
         _ => push_id(text, b),
