@@ -1,5 +1,6 @@
 //! The C interface by way of its header, include/vimelosa.h: a program in C, compiled as a caller would and
-//! run; the header alone as C and as C++; its names and numbers beside those of the documents and of Rust.
+//! run; one that measures the calls' stack, beside README; the header alone as C and as C++; its names and
+//! numbers beside those of the documents and of Rust.
 
 use std::env;
 use std::ffi::OsStr;
@@ -108,12 +109,12 @@ impl Compiler {
         self.compile(words.into_iter().chain([source.as_os_str()]));
     }
 
-    /// The program prints what it should.
-    fn run_plant(&self) {
-        let (program, source) =
-            (built(&format!("plant-{}", self.language)), host_file("tests/c_interface/plant.c"));
+    /// What a program prints that is compiled with these words more.
+    fn printed(&self, name: &str, words: &[&str]) -> String {
+        let program = built(&format!("{name}-{}", self.language));
+        let source = host_file(&format!("tests/c_interface/{name}.c"));
         let archive = archive();
-        self.compile([
+        let files = [
             OsStr::new("-x"),
             OsStr::new(self.language),
             source.as_os_str(),
@@ -122,10 +123,16 @@ impl Compiler {
             archive.as_os_str(),
             OsStr::new("-o"),
             program.as_os_str(),
-        ]);
+        ];
+        self.compile(words.iter().map(OsStr::new).chain(files));
         let ended = Command::new(&program).output().expect("the program starts");
         assert!(ended.status.success(), "{}", ended.status);
-        let printed = String::from_utf8(ended.stdout).expect("the program prints text");
+        String::from_utf8(ended.stdout).expect("the program prints text")
+    }
+
+    /// The program prints what it should.
+    fn run_plant(&self) {
+        let printed = self.printed("plant", &[]);
         assert_eq!(printed.lines().collect::<Vec<_>>(), PRINTED.lines().collect::<Vec<_>>());
     }
 }
@@ -143,6 +150,37 @@ fn a_program_in_c_calls_by_the_header() {
 #[test]
 fn the_header_compiles_alone_as_c() {
     C.compile_header();
+}
+
+/// The calls that README has with their bytes of stack, in its order.
+fn stack_of_readme() -> Vec<(String, u64)> {
+    let readme = text_of("../README.md");
+    let (_, section) = readme.split_once("## Stack\n").expect("README has the section");
+    let row = |line: &str| {
+        let cells: Vec<&str> = line.split('|').map(str::trim).collect();
+        match cells[..] {
+            ["", call, bytes, ..] => {
+                Some((call.trim_matches('`').to_string(), bytes.replace(',', "").parse().ok()?))
+            }
+            _ => None,
+        }
+    };
+    section.lines().take_while(|line| !line.starts_with("## ")).filter_map(row).collect()
+}
+
+/// No call takes more than README says, nor less by as much as a compiler's choices would not explain.
+#[test]
+fn the_calls_take_the_stack_that_readme_says() {
+    let said = stack_of_readme();
+    let printed = C.printed("stack", &["-O2", "-pthread"]);
+    let lines: Vec<Vec<&str>> = printed.lines().map(|line| line.split(' ').collect()).collect();
+    assert_eq!(lines.len(), said.len());
+    for (line, (call, most)) in lines.iter().zip(said) {
+        let bytes: u64 = line[2].parse().expect("a number");
+        let answer = if call == "vimelosa_apply" { "11" } else { "0" };
+        assert_eq!(line[..2], [call.as_str(), answer]);
+        assert!(bytes <= most && most - bytes < 256, "{call} takes {bytes} bytes, README says {most}");
+    }
 }
 
 /// Where there is a compiler for it, the header alone and the program.
@@ -232,8 +270,8 @@ fn the_sizes_of_the_header_are_those_of_rust() {
 }
 
 #[test]
-fn the_header_and_the_program_keep_to_110_columns() {
-    for name in ["include/vimelosa.h", "tests/c_interface/plant.c"] {
+fn the_header_and_the_programs_keep_to_110_columns() {
+    for name in ["include/vimelosa.h", "tests/c_interface/plant.c", "tests/c_interface/stack.c"] {
         let long = text_of(name).lines().position(|line| line.chars().count() > 110);
         assert_eq!(long, None, "in {name}");
     }

@@ -16,8 +16,8 @@ abbrev pub StampedUpTo : List ℕ → ℕ → Type 0
 StampedUpTo seen stamp = (y : ℕ) → at seen y ≤ stamp
 
 -- The words with their links, a property, and stamps that are lower than its own.
-pub record Walkable (table latest before seen : List ℕ) (z : ℕ) : Type 0 where
-  pub linked : Linked table latest before
+pub record Walkable (table links seen : List ℕ) (z : ℕ) : Type 0 where
+  pub linked : Linked table links
   pub id : Id z
   pub ids : length seen ≡ idCount
   pub lower : StampedUpTo seen z

@@ -29,6 +29,8 @@ ghost use Rattle.holders.specs.Values.{AllHeldOnce, HasExclusive};
 
 const IDS: usize = TOP as usize + 1;
 
+const LINKS: usize = MOST + IDS;
+
 // Whether a property is exclusive. No kind is higher: the last word tells.
 fn has_exclusive(table: &[Word]) -> bool
     requires words { ⌜ FactWords (now table) ⌝ }
@@ -49,11 +51,10 @@ fn all_held_once(table: &[Word]) -> bool
     requires few { ⌜ length (now table) ≤ product .most ⌝ }
     ensures answer { λ r. ⌜ Decides r (AllHeldOnce (now (table .entry))) ⌝ }
 {
-    let mut latest = [0u16; IDS];
-    let mut before = [0u16; MOST];
-    link_values(table, &mut latest, &mut before);
+    let mut links = [0u16; LINKS];
+    link_values(table, &mut links);
     let mut seen = [0u16; IDS];
-    each_held_once(table, &latest, &before, &mut seen)
+    each_held_once(table, &links, &mut seen)
 }
 
 // Rule E2.

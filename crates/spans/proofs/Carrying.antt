@@ -11,7 +11,7 @@ use Rattle.table.specs.Answers.{Decides}
 use Rattle.table.specs.Parts.{kindOf, firstOf, secondOf, thirdOf}
 use Rattle.table.specs.Counted.{Id}
 use Rattle.table.proofs.Arity.{kind-some}
-use Rattle.spans.specs.Spans.{idCount, spanCount, spanAt, at, FactWords}
+use Rattle.spans.specs.Spans.{idCount, IsSpan, spanAt, at, FactWords}
 use Rattle.spans.specs.Sought.{TwoIds}
 use Rattle.spans.specs.Graphs.{Stands, Each, lastOf, Carried, Carries}
 use Rattle.spans.specs.Stamps.{AllStamped, Stamped, StampedUpTo, Carriable}
@@ -39,11 +39,11 @@ module _ {t s zeros : List ℕ} {k m l : ℕ} (X : Carriable t s zeros k m l) (i
 
   module _ (span other : ℕ) (S : span ≡ spanAt m (firstOf (at t i))) (O : other ≡ spanAt l (lastOf k (secondOf (at t i))
       (thirdOf (at t i)))) where
-    pub first-counted : span < spanCount
-    first-counted = omega (arith, S, first-id (X .indexed .words) i I, X .upper .kind)
+    pub first-counted : IsSpan span
+    first-counted = (omega (arith, S, X .upper .kind .0), omega (arith, S, first-id (X .indexed .words) i I, X .upper .kind .1))
 
-    pub last-counted : other < spanCount
-    last-counted = omega (arith, O, last-id, X .lower .kind)
+    pub last-counted : IsSpan other
+    last-counted = (omega (arith, O, X .lower .kind .0), omega (arith, O, last-id, X .lower .kind .1))
 
     pub stamps-decide : {stamps : List ℕ} → Stamped t stamps span → (b : Bool) → Decides b (AllStamped t stamps span other)
         → Decides b (Carried t k m l (firstOf (at t i)) (secondOf (at t i)) (thirdOf (at t i)))

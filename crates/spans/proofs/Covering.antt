@@ -8,29 +8,30 @@ use native.Mathlib.Omega.{arith}
 use lib.ListN.{length}
 use Rattle.table.specs.Parts.{firstOf, secondOf}
 use Rattle.table.specs.Counted.{Id}
-use Rattle.spans.specs.Spans.{spanOf, at, Has, FactWords, Before, NotPast, Below, Indexed, SpanStart}
+use Rattle.spans.specs.Spans.{spanOf, entryOf, IsSpan, at, Has, FactWords, Before, NotPast, Below, Indexed, SpanStart}
 use Rattle.spans.specs.Passes.{Covered}
 use Rattle.spans.proofs.SpanPlaces.{split, span-below, span-seconds, first-id, spans-ascend}
 
 -- A span found by the index.
-module _ {t s : List ℕ} (X : Indexed t s) (j : ℕ) where
-  pub start-here : (i : ℕ) → i ≡ at s j → i < length t → spanOf (at t i) ≡ j → SpanStart t j i
+module _ {t s : List ℕ} (X : Indexed t s) (j : ℕ) (J : IsSpan j) where
+  pub start-here : (i : ℕ) → i ≡ at s (entryOf j) → i < length t → spanOf (at t i) ≡ j → SpanStart t j i
   start-here i q l e = record {
     within = omega arith;
     here = λ h. e;
-    before = λ h k b. X .starts .before j k (omega arith);
+    before = λ h k b. X .starts .before j k J (omega arith);
     none = λ h. absurd (omega arith);
   }
 
-  pub start-none : (i : ℕ) → i ≡ at s j → (i < length t → spanOf (at t i) ≡ j → ⊥) → SpanStart t j (length t)
+  pub start-none : (i : ℕ) → i ≡ at s (entryOf j) → (i < length t → spanOf (at t i) ≡ j → ⊥) → SpanStart t j (length t)
   start-none i q n = record {
     within = omega arith;
     here = λ h. absurd (omega arith);
     before = λ h. absurd (omega arith);
-    none = λ h k l e. apart (subst (λ (z : ℕ). (at s z < length t) × (spanOf (at t (at s z)) ≡ z)) e (X .starts .start k l));
+    none = λ h k l e. apart (subst (λ (z : ℕ). (at s (entryOf z) < length t) × (spanOf (at t (at s (entryOf z))) ≡ z)) e
+        (X .starts .start k l));
   }
     where
-      apart : (at s j < length t) × (spanOf (at t (at s j)) ≡ j) → ⊥
+      apart : (at s (entryOf j) < length t) × (spanOf (at t (at s (entryOf j))) ≡ j) → ⊥
       apart h = n (omega arith) (rw q (h .1))
 
 -- Words of a span, by where it starts.

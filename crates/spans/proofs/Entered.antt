@@ -1,25 +1,25 @@
 -- The index of spans while it is filled from the last word down. Assumes nothing.
 use Prim.Native.Nat.{ℕ, zero, suc, _-_, _≤_, _<_}
 use mathlib.Core.Path.{_≡_, refl, sym, ap, subst, _∙_}
-use mathlib.Core.Logic.{_⊎_, inl, inr, ⊎-elim}
+use mathlib.Core.Logic.{_⊎_, inl, inr}
 use mathlib.Core.List.{List}
 use native.Mathlib.Omega.{arith}
 use lib.ListN.{length, set, replicate, length-set}
 use lib.Seq.{getD-set-same, getD-set-other}
-use Rattle.spans.specs.Spans.{spanOf, spanCount, at, FactWords, Index}
-use Rattle.spans.proofs.SpanPlaces.{compare, span-within, spans-ascend}
+use Rattle.spans.specs.Spans.{spanOf, spanCount, entryOf, IsSpan, at, FactWords, Index}
+use Rattle.spans.proofs.SpanPlaces.{compare, is-span, spans-ascend}
 
 -- The place of a span is 0, where nothing is entered, or one of its words.
 abbrev Own : List ℕ → List ℕ → ℕ → Type 0
-Own t s j = (at s j ≡ 0) ⊎ ((at s j < length t) × (spanOf (at t (at s j)) ≡ j))
+Own t s j = (at s (entryOf j) ≡ 0) ⊎ ((at s (entryOf j) < length t) × (spanOf (at t (at s (entryOf j))) ≡ j))
 
 -- The words from place i on are entered.
 pub record Entered (t s : List ℕ) (i : ℕ) : Type 0 where
   pub spans : length s ≡ spanCount
   pub within : i ≤ length t
-  pub low : (m : ℕ) → i ≤ m → m < length t → at s (spanOf (at t m)) ≤ m
-  pub own : (j : ℕ) → Own t s j
-  pub start : (m : ℕ) → i ≤ m → m < length t → spanOf (at t (at s (spanOf (at t m)))) ≡ spanOf (at t m)
+  pub low : (m : ℕ) → i ≤ m → m < length t → at s (entryOf (spanOf (at t m))) ≤ m
+  pub own : (j : ℕ) → IsSpan j → Own t s j
+  pub start : (m : ℕ) → i ≤ m → m < length t → spanOf (at t (at s (entryOf (spanOf (at t m))))) ≡ spanOf (at t m)
 
 -- What a store leaves at a place.
 abbrev pub Stored : List ℕ → ℕ → ℕ → ℕ → Type 0
@@ -43,7 +43,7 @@ entered-none t s l z = record {
   spans = l;
   within = omega arith;
   low = λ m a b. absurd (omega arith);
-  own = λ j. inl (z j);
+  own = λ j q. inl (z (entryOf j));
   start = λ m a b. absurd (omega arith);
 }
 
@@ -52,42 +52,55 @@ abbrev nextSpan : List ℕ → ℕ → ℕ
 nextSpan t i = spanOf (at t (i - 1))
 
 abbrev nextIndex : List ℕ → List ℕ → ℕ → List ℕ
-nextIndex t s i = set s (nextSpan t i) (i - 1)
+nextIndex t s i = set s (entryOf (nextSpan t i)) (i - 1)
+
+-- Two spans have two entries.
+entry-one : (j k : ℕ) → IsSpan j → IsSpan k → entryOf j ≡ entryOf k → j ≡ k
+entry-one j k (p, q) (r, s) e = omega arith
 
 module _ {t s : List ℕ} (F : FactWords t) (i : ℕ) (p : 0 < i) (E : Entered t s i) where
   -- The place of the store is in the index.
-  pub entry-within : nextSpan t i < length s
-  entry-within = omega (arith, E .spans, span-within F (i - 1) (omega (arith, E .within)))
+  pub next-is-span : IsSpan (nextSpan t i)
+  next-is-span = is-span F (i - 1) (omega (arith, E .within))
+
+  pub entry-within : entryOf (nextSpan t i) < length s
+  entry-within = omega (arith, E .spans, next-is-span .1)
 
   pub entered-more : Entered t (nextIndex t s i) (i - 1)
   entered-more = record {
     spans = length-set s _ _ ∙ E .spans;
     within = omega (arith, E .within);
-    low = λ m a b. low m a b (view (spanOf (at t m))) (compare m (i - 1));
-    own = λ j. own j (view j);
-    start = λ m a b. start m a b (view (spanOf (at t m))) (compare m (i - 1));
+    low = λ m a b. low m a b (view (entryOf (spanOf (at t m)))) (compare m (i - 1));
+    own = λ j q. own j q (view (entryOf j));
+    start = λ m a b. start m a b (view (entryOf (spanOf (at t m)))) (compare m (i - 1));
   }
     where
-      view : (j : ℕ) → Stored s (nextSpan t i) (i - 1) j
-      view j = stored s (nextSpan t i) (i - 1) j entry-within
+      Next : ℕ → Type 0
+      Next = Stored s (entryOf (nextSpan t i)) (i - 1)
 
-      same-span : {m : ℕ} → i - 1 ≡ m → spanOf (at t m) ≡ nextSpan t i
-      same-span d = ap (λ (z : ℕ). spanOf (at t z)) (sym d)
+      view : (j : ℕ) → Next j
+      view j = stored s (entryOf (nextSpan t i)) (i - 1) j entry-within
 
-      low : (m : ℕ) → i - 1 ≤ m → m < length t → Stored s (nextSpan t i) (i - 1) (spanOf (at t m)) → (m < i - 1)
-          ⊎ ((i - 1 ≡ m) ⊎ (i - 1 < m)) → at (nextIndex t s i) (spanOf (at t m)) ≤ m
+      same-span : {m : ℕ} → i - 1 ≡ m → entryOf (spanOf (at t m)) ≡ entryOf (nextSpan t i)
+      same-span d = ap (λ (z : ℕ). entryOf (spanOf (at t z))) (sym d)
+
+      low : (m : ℕ) → i - 1 ≤ m → m < length t → Next (entryOf (spanOf (at t m))) → (m < i - 1)
+          ⊎ ((i - 1 ≡ m) ⊎ (i - 1 < m)) → at (nextIndex t s i) (entryOf (spanOf (at t m))) ≤ m
       low m a b (inl (e, f)) d = omega arith
       low m a b (inr (n, f)) (inl d) = absurd (omega arith)
       low m a b (inr (n, f)) (inr (inl d)) = absurd (n (same-span d))
       low m a b (inr (n, f)) (inr (inr d)) = omega (arith, E .low m (omega arith) b)
 
-      own : (j : ℕ) → Stored s (nextSpan t i) (i - 1) j → Own t (nextIndex t s i) j
-      own j (inl (e, f)) = inr (omega (arith, E .within), ap (λ (z : ℕ). spanOf (at t z)) f ∙ sym e)
-      own j (inr (n, f)) = rw f (E .own j)
+      own : (j : ℕ) → IsSpan j → Next (entryOf j) → Own t (nextIndex t s i) j
+      own j q (inl (e, f)) = inr (
+        omega (arith, E .within),
+        ap (λ (z : ℕ). spanOf (at t z)) f ∙ sym (entry-one j (nextSpan t i) q next-is-span e),
+      )
+      own j q (inr (n, f)) = rw f (E .own j q)
 
-      start : (m : ℕ) → i - 1 ≤ m → m < length t → Stored s (nextSpan t i) (i - 1) (spanOf (at t m)) → (m < i - 1)
-          ⊎ ((i - 1 ≡ m) ⊎ (i - 1 < m)) → spanOf (at t (at (nextIndex t s i) (spanOf (at t m)))) ≡ spanOf (at t m)
-      start m a b (inl (e, f)) d = ap (λ (z : ℕ). spanOf (at t z)) f ∙ sym e
+      start : (m : ℕ) → i - 1 ≤ m → m < length t → Next (entryOf (spanOf (at t m))) → (m < i - 1)
+          ⊎ ((i - 1 ≡ m) ⊎ (i - 1 < m)) → spanOf (at t (at (nextIndex t s i) (entryOf (spanOf (at t m))))) ≡ spanOf (at t m)
+      start m a b (inl (e, f)) d = ap (λ (z : ℕ). spanOf (at t z)) f ∙ sym (entry-one _ _ (is-span F m b) next-is-span e)
       start m a b (inr (n, f)) (inl d) = absurd (omega arith)
       start m a b (inr (n, f)) (inr (inl d)) = absurd (n (same-span d))
       start m a b (inr (n, f)) (inr (inr d)) = ap (λ (z : ℕ). spanOf (at t z)) f ∙ E .start m (omega arith) b
@@ -95,22 +108,22 @@ module _ {t s : List ℕ} (F : FactWords t) (i : ℕ) (p : 0 < i) (E : Entered t
 pub entered-all : {t s : List ℕ} → FactWords t → Entered t s 0 → Index t s
 entered-all {t} {s} F E = record {
   spans = E .spans;
-  within = λ j. ⊎-elim (λ z. omega arith) (λ z. omega (arith, z .0)) (E .own j);
-  before = λ j k h. before j k h (E .own j);
+  before = λ j k q h. before j k h (E .own j q);
   start = λ i h. (omega (arith, E .low i (omega arith) h), E .start i (omega arith) h);
 }
   where
-    before : (j k : ℕ) → k < at s j → Own t s j → spanOf (at t k) < j
+    before : (j k : ℕ) → k < at s (entryOf j) → Own t s j → spanOf (at t k) < j
     before j k h (inl z) = absurd (omega arith)
     before j k h (inr (l, e)) = by-case (compare (spanOf (at t k)) j)
       where
         at-most : spanOf (at t k) ≤ j
-        at-most = subst (λ (z : ℕ). spanOf (at t k) ≤ z) e (spans-ascend F k (at s j) (omega arith) l)
+        at-most = subst (λ (z : ℕ). spanOf (at t k) ≤ z) e (spans-ascend F k (at s (entryOf j)) (omega arith) l)
 
         by-case : (spanOf (at t k) < j) ⊎ ((j ≡ spanOf (at t k)) ⊎ (j < spanOf (at t k))) → spanOf (at t k) < j
         by-case (inl a) = a
-        by-case (inr (inl a)) = absurd (later (subst (λ (z : ℕ). at s z ≤ k) (sym a) (E .low k (omega arith) (omega arith))))
+        by-case (inr (inl a)) =
+            absurd (later (subst (λ (z : ℕ). at s (entryOf z) ≤ k) (sym a) (E .low k (omega arith) (omega arith))))
           where
-            later : at s j ≤ k → ⊥
+            later : at s (entryOf j) ≤ k → ⊥
             later q = omega arith
         by-case (inr (inr a)) = absurd (omega (arith, at-most))

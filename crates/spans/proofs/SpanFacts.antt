@@ -10,9 +10,9 @@ use Rattle.rdfs.specs.Numbers.{arity}
 use Rattle.table.specs.Answers.{Decides}
 use Rattle.table.specs.Parts.{kindOf, firstOf, secondOf, thirdOf, wordOf}
 use Rattle.table.specs.Counted.{Id}
-use Rattle.spans.specs.Spans.{spanAt, spanOf, idCount, at, Has, FactWords, Indexed, SpanStart}
+use Rattle.spans.specs.Spans.{spanAt, spanOf, entryOf, IsSpan, idCount, at, Has, FactWords, Indexed, SpanStart}
 use Rattle.spans.specs.Passes.{Covered, groupOf}
-use Rattle.spans.specs.Sought.{TwoIds}
+use Rattle.spans.specs.Sought.{Kind, TwoIds}
 use Rattle.spans.specs.Graphs.{Stands, Inherited, Single, Only}
 use Rattle.spans.proofs.SpanPlaces.{split, compare, first-id, words-ascend}
 use Rattle.spans.proofs.Covering.{span-from, span-past}
@@ -96,21 +96,27 @@ module _ {t : List ℕ} (F : FactWords t) (k a : ℕ) (K : TwoIds k) (A : Id a) 
 least-word : (w k a : ℕ) → Id a → Id (firstOf w) → spanOf w ≡ spanAt k a → wordOf k a 0 0 ≤ w
 least-word w k a h i e = omega arith
 
-module _ {t s : List ℕ} (X : Indexed t s) (k a i w : ℕ) (A : Id a) (I : i ≡ at s (spanAt k a)) (W : w ≡ wordOf k a 0 0) where
+module _ {t s : List ℕ} (X : Indexed t s) (k a i w : ℕ) (K : Kind k) (A : Id a) (I : i ≡ at s (entryOf (spanAt k a)))
+    (W : w ≡ wordOf k a 0 0) where
   least-first : Has t (wordOf k a 0 0) → (i < length t) × (at t i ≡ w)
   least-first (m, l, e) = (within, same-within (at t i) (at t m) (words-ascend (X .words) i m from l) least e)
     where
       same : spanOf (at t m) ≡ spanAt k a
       same = span-by (at t m) k a 0 A (omega arith) e
 
-      start : (at s (spanAt k a) < length t) × (spanOf (at t (at s (spanAt k a))) ≡ spanAt k a)
-      start = subst (λ (z : ℕ). (at s z < length t) × (spanOf (at t (at s z)) ≡ z)) same (X .starts .start m l)
+      start : (at s (entryOf (spanAt k a)) < length t) × (spanOf (at t (at s (entryOf (spanAt k a)))) ≡ spanAt k a)
+      start = subst (λ (z : ℕ). (at s (entryOf z) < length t) × (spanOf (at t (at s (entryOf z))) ≡ z)) same
+          (X .starts .start m l)
 
       within : i < length t
       within = omega (arith, start .0)
 
+      is-span : IsSpan (spanAt k a)
+      is-span = (omega (arith, K .0), omega (arith, K .1))
+
       from : i ≤ m
-      from = ⊎-elim (λ h. absurd (omega (arith, same, X .starts .before (spanAt k a) m (omega arith)))) (λ h. h) (split m i)
+      from =
+          ⊎-elim (λ h. absurd (omega (arith, same, X .starts .before (spanAt k a) m is-span (omega arith)))) (λ h. h) (split m i)
 
       least : wordOf k a 0 0 ≤ at t i
       least = least-word (at t i) k a A (first-id (X .words) i within) (rw I (start .1))
@@ -136,7 +142,7 @@ module _ (t : List ℕ) (a b c : ℕ) (A : Id a) (B : Id b) (C : Id c) where
 
   pub inherited-covered : FactWords t → Inherited t a b c → Covered t (spanAt 6 c) (wordOf 10 a b 0)
   inherited-covered F U i h e = subst (Has t) (omega arith)
-      (U (secondOf (at t i)) (span-stands F 6 c (record { kind = omega arith; ids = refl }) C i h e) .1)
+      (U (secondOf (at t i)) (span-stands F 6 c (record { kind = (omega arith, omega arith); ids = refl }) C i h e) .1)
 
 -- The one second id of a's facts of a kind.
 module _ {t : List ℕ} {k a r : ℕ} (O : Only t k a r) where

@@ -11,8 +11,8 @@ use lib.ListN.{length}
 use Rattle.table.specs.Answers.{Decides}
 use Rattle.table.specs.Parts.{kindOf, firstOf, secondOf}
 use Rattle.table.specs.Counted.{Id}
-use Rattle.table.proofs.Arity.{shaped-within}
-use Rattle.spans.specs.Spans.{spanOf, spanCount, at, Has, FactWords, Before, Below}
+use Rattle.table.proofs.Arity.{shaped-some, shaped-within}
+use Rattle.spans.specs.Spans.{spanOf, IsSpan, at, Has, FactWords, Before, Below}
 use Rattle.spans.specs.Sought.{Kind}
 
 -- Below, or not; below, at, or above.
@@ -29,8 +29,8 @@ span-mono v w i h = omega arith
 pub span-below : (v w : ℕ) → Id (firstOf w) → spanOf v < spanOf w → v < w
 span-below v w i h = omega arith
 
-pub span-counted : (w : ℕ) → Kind (kindOf w) → Id (firstOf w) → spanOf w < spanCount
-span-counted w h i = omega arith
+pub span-counted : (w : ℕ) → Kind (kindOf w) → Id (firstOf w) → IsSpan (spanOf w)
+span-counted w (h, l) i = (omega arith, omega arith)
 
 -- Within a span the second ids ascend.
 pub span-seconds : (v w : ℕ) → Id (firstOf v) → Id (firstOf w) → v < w → spanOf v ≡ spanOf w → secondOf v ≤ secondOf w
@@ -48,8 +48,8 @@ module _ {t : List ℕ} (F : FactWords t) where
   pub first-id : (i : ℕ) → i < length t → Id (firstOf (at t i))
   first-id i h = F .facts i h .allowed .first
 
-  pub span-within : (i : ℕ) → i < length t → spanOf (at t i) < spanCount
-  span-within i h = span-counted (at t i) (shaped-within (F .facts i h .shaped)) (first-id i h)
+  pub is-span : (i : ℕ) → i < length t → IsSpan (spanOf (at t i))
+  is-span i h = let s = F .facts i h .shaped in span-counted (at t i) (shaped-some s, shaped-within s) (first-id i h)
 
   pub spans-ascend : (i j : ℕ) → i ≤ j → j < length t → spanOf (at t i) ≤ spanOf (at t j)
   spans-ascend i j h l = span-mono (at t i) (at t j) (first-id i (omega arith)) (words-ascend i j h l)

@@ -6,7 +6,7 @@ use lib.ListN.{length}
 use Rattle.rdfs.specs.Numbers.{product, kindCount}
 use Rattle.table.specs.Parts.{kindOf, secondOf, thirdOf, wordOf}
 use Rattle.spans.specs.Spans.{
-  spanCount,
+  IsSpan,
   spanOf,
   at,
   Has,
@@ -25,7 +25,7 @@ Covered table span base = (i : ℕ) → i < length table → spanOf (at table i)
 -- What such a pass is given: a span, a base that leaves room for an id, a place that is not past the base's.
 pub record Coverable (table index : List ℕ) (span from base : ℕ) : Type 0 where
   pub indexed : Indexed table index
-  pub counted : span < spanCount
+  pub counted : IsSpan span
   pub place : NotPast table from base
   pub room : base ≤ wordOf kindCount (product .top) (product .top) 0
 

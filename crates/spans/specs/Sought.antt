@@ -6,9 +6,9 @@ use Rattle.rdfs.specs.Numbers.{kindCount, arity}
 use Rattle.table.specs.Counted.{Id}
 use Rattle.spans.specs.Spans.{Indexed}
 
--- A kind, or 0.
+-- The kinds are numbered from 1 on.
 abbrev pub Kind : ℕ → Type 0
-Kind k = k ≤ kindCount
+Kind k = (1 ≤ k) × (k ≤ kindCount)
 
 -- A kind with two ids.
 pub record TwoIds (k : ℕ) : Type 0 where

@@ -1,18 +1,18 @@
 -- The words of a table before its zeros, and where each span of them starts. A span is the words of one kind
 -- and one first id.
-use Prim.Native.Nat.{ℕ, suc, _+_, _*_, _≤_, _<_}
+use Prim.Native.Nat.{ℕ, suc, _+_, _-_, _*_, _≤_, _<_}
 use mathlib.Core.Path.{_≡_}
 use mathlib.Core.List.{List}
 use lib.ListN.{length, getD}
 use Rattle.rdfs.specs.Numbers.{product, kindCount}
 use Rattle.table.specs.Parts.{kindOf, firstOf, secondOf, thirdOf, Shaped, Allowed}
 
--- How many ids there are, and how many spans: kind 0 has none, and keeps a span's number the kind's multiple.
+-- How many ids there are, and how many spans: one for each kind and first id.
 abbrev pub idCount : ℕ
 idCount = suc (product .top)
 
 abbrev pub spanCount : ℕ
-spanCount = suc kindCount * idCount
+spanCount = kindCount * idCount
 
 -- The number of a span, by its kind and first id; a word's span.
 abbrev pub spanAt : ℕ → ℕ → ℕ
@@ -20,6 +20,14 @@ spanAt k a = k * idCount + a
 
 abbrev pub spanOf : ℕ → ℕ
 spanOf word = spanAt (kindOf word) (firstOf word)
+
+-- A span's place in an index of spans. The first spans are those of kind 1.
+abbrev pub entryOf : ℕ → ℕ
+entryOf span = span - idCount
+
+-- The number is that of a span.
+abbrev pub IsSpan : ℕ → Type 0
+IsSpan span = (idCount ≤ span) × (entryOf span < spanCount)
 
 abbrev pub at : List ℕ → ℕ → ℕ
 at l i = getD l i 0
@@ -57,17 +65,16 @@ pub record Below (table : List ℕ) (word place : ℕ) : Type 0 where
 -- there if it has any.
 pub record Index (table index : List ℕ) : Type 0 where
   pub spans : length index ≡ spanCount
-  pub within : (span : ℕ) → at index span ≤ length table
-  pub before : (span i : ℕ) → i < at index span → spanOf (at table i) < span
-  pub start : (i : ℕ) → i < length table → (at index (spanOf (at table i)) < length table)
-      × (spanOf (at table (at index (spanOf (at table i)))) ≡ spanOf (at table i))
+  pub before : (span i : ℕ) → IsSpan span → i < at index (entryOf span) → spanOf (at table i) < span
+  pub start : (i : ℕ) → i < length table → (at index (entryOf (spanOf (at table i))) < length table)
+      × (spanOf (at table (at index (entryOf (spanOf (at table i))))) ≡ spanOf (at table i))
 
 -- What an index is filled from: words of facts, no more than an index can count, and an index of zeros.
 pub record Fillable (table index : List ℕ) : Type 0 where
   pub words : FactWords table
   pub few : length table ≤ 65536
   pub spans : length index ≡ spanCount
-  pub zeros : (span : ℕ) → at index span ≡ 0
+  pub zeros : (i : ℕ) → at index i ≡ 0
 
 -- The words of a table, no more than a table has, with the index of their spans.
 pub record Indexed (table index : List ℕ) : Type 0 where

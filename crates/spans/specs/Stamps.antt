@@ -5,7 +5,7 @@ use mathlib.Core.Path.{_≡_}
 use mathlib.Core.List.{List}
 use lib.ListN.{length}
 use Rattle.table.specs.Parts.{secondOf}
-use Rattle.spans.specs.Spans.{idCount, spanCount, spanOf, at, Indexed}
+use Rattle.spans.specs.Spans.{idCount, IsSpan, spanOf, at, Indexed}
 use Rattle.spans.specs.Sought.{Kind, TwoIds}
 
 -- The span has a word with z as its second id.
@@ -32,7 +32,7 @@ AllLower stamps span = (z : ℕ) → at stamps z < span
 -- The words with their index, a span, and a stamp for each id.
 pub record Stampable (table index stamps : List ℕ) (span : ℕ) : Type 0 where
   pub indexed : Indexed table index
-  pub counted : span < spanCount
+  pub counted : IsSpan span
   pub ids : length stamps ≡ idCount
 
 -- The stamps are at most that of the last span, which does not come after this one.

@@ -8,12 +8,16 @@ ghost use mathlib.Core.Path.{_≡_};
 ghost use Prim.Native.Nat.{_<_};
 ghost use lib.ListN.{length};
 ghost use Rattle.table.specs.Counted.{Id};
-ghost use Rattle.spans.specs.Spans.{spanAt, spanOf, spanCount, at, Index, Fillable, Indexed, SpanStart};
+ghost use Rattle.spans.specs.Spans.{spanAt, spanOf, entryOf, IsSpan, at};
+ghost use Rattle.spans.specs.Spans.{Index, Fillable, Indexed, SpanStart};
 ghost use Rattle.spans.specs.Sought.{Kind};
 
 pub const IDS: Word = TOP + 1;
 
-pub const SPANS: usize = (KINDS as usize + 1) * (TOP as usize + 1);
+// The number of the first span. Kind 0 has none.
+const FIRST: usize = TOP as usize + 1;
+
+pub const SPANS: usize = KINDS as usize * FIRST;
 
 pub fn span_at(k: Word, a: Word) -> usize
     requires kind { ⌜ Kind k ⌝ }
@@ -27,6 +31,14 @@ pub fn span_of(word: Word) -> usize
     ensures answer { λ r. ⌜ r ≡ spanOf word ⌝ }
 {
     (kind_of(word) * IDS + first_of(word)) as usize
+}
+
+// A span's place in the index.
+pub fn entry_of(span: usize) -> usize
+    requires span { ⌜ IsSpan span ⌝ }
+    ensures answer { λ r. ⌜ r ≡ entryOf span ⌝ }
+{
+    span - FIRST
 }
 
 fn wide(number: u16) -> usize
@@ -51,18 +63,18 @@ pub fn fill_index<'a>(table: &'a [Word], index: &mut [u16])
     let mut at = table.len();
     while 0 < at {
         at -= 1;
-        let span = span_of(table[at]);
-        index[span] = at as u16;
+        let entry = entry_of(span_of(table[at]));
+        index[entry] = at as u16;
     }
 }
 
 // The place of a span's first word, or the number of words if the span has none.
 pub fn find_span<'a>(table: &'a [Word], index: &'a [u16], span: usize) -> usize
     requires words { ⌜ Indexed (now table) (now index) ⌝ }
-    requires span { ⌜ span < spanCount ⌝ }
+    requires span { ⌜ IsSpan span ⌝ }
     ensures answer { λ r. ⌜ SpanStart (now (table .entry)) span r ⌝ }
 {
-    let place = number_at(index, span);
+    let place = number_at(index, entry_of(span));
     if place < table.len() {
         if span_of(table[place]) == span {
             return place;

@@ -5,8 +5,8 @@
 // ascend, most of them with the index of their spans; the tests of rules 22, 23, 25, H3 and H4 also require
 // what an earlier rule shows, one domain or one range for each property. The crate assumes nothing.
 //
-// The index of spans takes 6,144 bytes of stack, two for each of 12 times 256 spans, and the stamps of a span
-// 512. With ids up to 4,095 the index would take 98,304 and the stamps 8,192.
+// The index of spans takes 5,632 bytes of stack, two for each of 11 times 256 spans, and the stamps of a span
+// 512. With ids up to 4,095 the index would take 90,112 and the stamps 8,192.
 mod index;
 mod merge;
 mod present;

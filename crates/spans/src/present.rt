@@ -1,5 +1,6 @@
 // Tests by ids that several rules share: whether a fact stands, and the facts of one kind and one first id.
 use crate::index::IDS;
+use crate::index::entry_of;
 use crate::index::find_span;
 use crate::index::number_at;
 use crate::index::span_at;
@@ -39,7 +40,7 @@ pub fn has_least<'a>(table: &'a [Word], index: &'a [u16], k: Word, a: Word) -> b
     requires kind { ⌜ Kind k ⌝ }
     ensures answer { λ r. ⌜ Decides r (Stands (now (table .entry)) k a 0 0) ⌝ }
 {
-    let place = number_at(index, span_at(k, a));
+    let place = number_at(index, entry_of(span_at(k, a)));
     is_at(table, place, word_of(k, a, 0, 0))
 }
 

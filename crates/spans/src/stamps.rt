@@ -15,11 +15,10 @@ use table::second_of;
 use table::third_of;
 use table::word_of;
 ghost use mathlib.Core.Path.{_≡_};
-ghost use Prim.Native.Nat.{_<_};
 ghost use Rattle.rdfs.specs.Rules.{Meets, r24};
 ghost use Rattle.table.specs.Answers.{Decides};
 ghost use Rattle.table.specs.Parts.{secondOf, thirdOf};
-ghost use Rattle.spans.specs.Spans.{spanCount, Indexed};
+ghost use Rattle.spans.specs.Spans.{IsSpan, Indexed};
 ghost use Rattle.spans.specs.Sought.{TwoIds};
 ghost use Rattle.spans.specs.Graphs.{Each, graphOf, lastOf, Carried, Carries};
 ghost use Rattle.spans.specs.Stamps.{AllStamped, Stamped, AllLower, Stampable, StampedUpTo, Carriable};
@@ -27,7 +26,7 @@ ghost use Rattle.spans.specs.Stamps.{AllStamped, Stamped, AllLower, Stam
 const STAMPS: usize = TOP as usize + 1;
 
 fn stamp_of(span: usize) -> u16
-    requires span { ⌜ span < spanCount ⌝ }
+    requires span { ⌜ IsSpan span ⌝ }
     ensures answer { λ r. ⌜ r ≡ span ⌝ }
 {
     span as u16

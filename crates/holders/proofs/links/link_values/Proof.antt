@@ -2,17 +2,19 @@
 -- `at` up to `end`. The measure is their number. Assumes nothing.
 use Prim.Native.Nat.{_-_}
 use native.Mathlib.Omega.{arith}
+use lib.ListN.{length-set}
 use borrow.Author.Needs.{needs}
+use Rattle.spans.specs.Spans.{at}
 use Rattle.holders.proofs.Linking.{Linking, linking-none, linking-more, linking-end}
-use Rattle.holders.proofs.Linking.{linking-place, linking-few, third-within, place-within}
+use Rattle.holders.proofs.Linking.{linking-place, linking-few, third-id, latest-within, place-within}
 use Rattle.holders.proofs.links.link_values.Statement.{statement}
 use Rattle.holders.proofs.links.link_values.Tie as tie
 
 abbrev Inv-loop : tie.InvT-loop
-Inv-loop table latest₀ before₀ at₀ end latest before at = Linking table latest before end at
+Inv-loop table links₀ at₀ end links at = Linking table links end at
 
 abbrev μ-loop : tie.MeasureT-loop
-μ-loop table latest₀ before₀ at₀ end latest before at = end - at
+μ-loop table links₀ at₀ end links at = end - at
 
 word-of-requires : tie.Need-word-of-requires Inv-loop μ-loop
 word-of-requires c κs = search needs
@@ -31,7 +33,7 @@ place-of-requires-2 c κs = search needs
 
 loop-holds : tie.Need-loop-holds Inv-loop μ-loop
 loop-holds c =
-    let entry = c .before .before .before .before .before .before .before in
+    let entry = c .before .before .before .before .before .before in
     linking-none (entry .pre .0) (entry .pre .1) _ _ _ _ (c .before .before .before .word-of .ensures)
     (c .before .word-of2 .ensures) (c .before .before .place-of .ensures) (c .place-of2 .ensures)
 
@@ -44,46 +46,48 @@ shared-slice-read-third-of c = omega (arith, linking-place (c .before .before .l
 third-of-requires : tie.Need-third-of-requires Inv-loop μ-loop
 third-of-requires c κs = search needs
 
-place-requires : tie.Need-place-requires Inv-loop μ-loop
-place-requires c κs = search needs
+latest-at-requires : tie.Need-latest-at-requires Inv-loop μ-loop
+latest-at-requires c κs =
+    rw (c .third-of .ensures) (third-id (c .before .before .before .loop .inv) (c .before .before .loop-test .taken))
 
-mul-before : tie.Need-mul-before Inv-loop μ-loop
-mul-before c =
+mul-links : tie.Need-mul-links Inv-loop μ-loop
+mul-links c =
     let at-loop = c .before .before .before .before in
-    let within = third-within (at-loop .loop .inv) (c .before .before .before .loop-test .taken) in
-    omega (arith, within, at-loop .loop .inv .linkable .ids, c .place .ensures, c .before .third-of .ensures)
+    let within = latest-within (at-loop .loop .inv) (c .before .before .before .loop-test .taken) in
+    omega (arith, within, at-loop .loop .inv .linkable .places, c .latest-at .ensures, c .before .third-of .ensures)
 
-slice-read-before : tie.Need-slice-read-before Inv-loop μ-loop
-slice-read-before c =
+slice-read-links : tie.Need-slice-read-links Inv-loop μ-loop
+slice-read-links c =
     let at-loop = c .before .before .before .before .before in
-    rw (c .before .place .ensures, c .before .before .third-of .ensures) (third-within (at-loop .loop .inv)
+    rw (c .before .latest-at .ensures, c .before .before .third-of .ensures) (latest-within (at-loop .loop .inv)
     (c .before .before .before .before .loop-test .taken))
 
-mul-before-2 : tie.Need-mul-before-2 Inv-loop μ-loop
-mul-before-2 c =
+mul-links-2 : tie.Need-mul-links-2 Inv-loop μ-loop
+mul-links-2 c =
     let at-loop = c .before .before .before .before .before in
     omega (arith, linking-few (at-loop .loop .inv) (c .before .before .before .before .loop-test .taken))
 
-slice-write-before : tie.Need-slice-write-before Inv-loop μ-loop
-slice-write-before c =
+slice-write-links : tie.Need-slice-write-links Inv-loop μ-loop
+slice-write-links c =
     let at-loop = c .before .before .before .before .before in
     place-within (at-loop .loop .inv) (c .before .before .before .before .loop-test .taken)
 
 add-at : tie.Need-add-at Inv-loop μ-loop
-add-at c = omega (arith, mul-before-2 c)
+add-at c = omega (arith, mul-links-2 c)
 
-cast-latest : tie.Need-cast-latest Inv-loop μ-loop
-cast-latest c =
+cast-links : tie.Need-cast-links Inv-loop μ-loop
+cast-links c =
     let at-loop = c .before .before .before .before .before in
     omega (arith, linking-few (at-loop .loop .inv) (c .before .before .before .before .loop-test .taken))
 
-mul-latest : tie.Need-mul-latest Inv-loop μ-loop
-mul-latest c =
-    let at-loop = c .before .before .before .before .before in
-    omega (arith, slice-read-before c, at-loop .loop .inv .linkable .ids)
+mul-links-3 : tie.Need-mul-links-3 Inv-loop μ-loop
+mul-links-3 c = mul-links (c .before)
 
-slice-write-latest : tie.Need-slice-write-latest Inv-loop μ-loop
-slice-write-latest c = slice-read-before c
+slice-write-links-2 : tie.Need-slice-write-links-2 Inv-loop μ-loop
+slice-write-links-2 c =
+    let at-loop = c .before .before .before .before .before in
+    let links = at-loop .loop .links in
+    rw (length-set links (at-loop .loop .at) (at links (c .before .latest-at .result))) (slice-read-links c)
 
 loop-less : tie.Need-loop-less Inv-loop μ-loop
 loop-less c = omega arith
@@ -91,14 +95,13 @@ loop-less c = omega arith
 loop-again : tie.Need-loop-again Inv-loop μ-loop
 loop-again c =
     let at-loop = c .before .before .before .before .before in
-    rw (c .before .place .ensures, c .before .before .third-of .ensures) (linking-more (at-loop .loop .inv)
+    rw (c .before .latest-at .ensures, c .before .before .third-of .ensures) (linking-more (at-loop .loop .inv)
     (c .before .before .before .before .loop-test .taken))
 
 same-length : tie.Need-same-length Inv-loop μ-loop
-same-length c = omega (arith, c .before .loop .inv .linkable .ids)
-
-same-length-2 : tie.Need-same-length-2 Inv-loop μ-loop
-same-length-2 c = omega (arith, c .before .loop .inv .linkable .places)
+same-length c =
+    let entry = c .before .before .before .before .before .before .before .before in
+    omega (arith, c .before .loop .inv .linkable .places, entry .pre .0 .places)
 
 returns : tie.Need-returns Inv-loop μ-loop
 returns c = linking-end (c .before .loop .inv) (c .loop-test .left)
@@ -118,17 +121,16 @@ link-values-spec =
     mul-third-of
     shared-slice-read-third-of
     third-of-requires
-    place-requires
-    mul-before
-    slice-read-before
-    mul-before-2
-    slice-write-before
+    latest-at-requires
+    mul-links
+    slice-read-links
+    mul-links-2
+    slice-write-links
     add-at
-    cast-latest
-    mul-latest
-    slice-write-latest
+    cast-links
+    mul-links-3
+    slice-write-links-2
     loop-less
     loop-again
     same-length
-    same-length-2
     returns)

@@ -14,10 +14,10 @@ use Rattle.holders.proofs.walk.each_held_once.Statement.{statement}
 use Rattle.holders.proofs.walk.each_held_once.Tie as tie
 
 abbrev Inv-loop : tie.InvT-loop
-Inv-loop table latest before seen₀ at₀ end seen at = Judging table seen end at
+Inv-loop table links seen₀ at₀ end seen at = Judging table seen end at
 
 abbrev μ-loop : tie.MeasureT-loop
-μ-loop table latest before seen₀ at₀ end seen at = end - at
+μ-loop table links seen₀ at₀ end seen at = end - at
 
 word-of-requires : tie.Need-word-of-requires Inv-loop μ-loop
 word-of-requires c κs = search needs
@@ -36,7 +36,7 @@ place-of-requires-2 c κs = search needs
 
 loop-holds : tie.Need-loop-holds Inv-loop μ-loop
 loop-holds c =
-    let entry = c .before .before .before .before .before .before .before .before in
+    let entry = c .before .before .before .before .before .before .before in
     judging-none (entry .pre .0 .linkable .words) _ _ _ _ _ (c .before .before .before .word-of .ensures)
     (c .before .word-of2 .ensures) (c .before .before .place-of .ensures) (c .place-of2 .ensures) (entry .pre .1 .0)
     (entry .pre .1 .1)
@@ -53,7 +53,7 @@ first-of-requires c κs = search needs
 is-held-once-requires : tie.Need-is-held-once-requires Inv-loop μ-loop
 is-held-once-requires c κs =
     let at-loop = c .before .before .before .before in
-    let entry = at-loop .before .before .before .before .before .before .before .before .before in
+    let entry = at-loop .before .before .before .before .before .before .before .before in
     let i = at-loop .loop .at in
     let taken = c .before .before .before .loop-test .taken in
     let fact = entry .pre .0 .linkable .words .facts i (omega (arith, at-loop .loop .inv .properties .within)) in
@@ -67,14 +67,14 @@ is-held-once-requires c κs =
 same-length : tie.Need-same-length Inv-loop μ-loop
 same-length c =
     let at-loop = c .before .before .before .before .before .before .before .before in
-    let entry = at-loop .before .before .before .before .before .before .before .before .before in
-    omega (arith, c .before .before .before .is-held-once .kept .1 .1 .1 .0, at-loop .loop .inv .ids, entry .pre .1 .0)
+    let entry = at-loop .before .before .before .before .before .before .before .before in
+    omega (arith, c .before .before .before .is-held-once .kept .1 .1 .0, at-loop .loop .inv .ids, entry .pre .1 .0)
 
 returns : tie.Need-returns Inv-loop μ-loop
 returns c =
     let at-held = c .before .before .before in
     let at-loop = at-held .before .before .before .before .before in
-    let entry = at-loop .before .before .before .before .before .before .before .before .before in
+    let entry = at-loop .before .before .before .before .before .before .before .before in
     let words = now (entry .args .table) in
     let i = at-loop .loop .at in
     let taken = at-held .before .before .before .before .loop-test .taken in
@@ -94,18 +94,18 @@ loop-again : tie.Need-loop-again Inv-loop μ-loop
 loop-again c =
     let at-held = c .before .before .before in
     let at-loop = at-held .before .before .before .before .before in
-    let entry = at-loop .before .before .before .before .before .before .before .before .before in
+    let entry = at-loop .before .before .before .before .before .before .before .before in
     let words = now (entry .args .table) in
     let i = at-loop .loop .at in
     let taken = at-held .before .before .before .before .loop-test .taken in
     let answer = rw (at-held .before .first-of .ensures) at (at-held .is-held-once .ensures) in
     judging-more (entry .pre .0 .linkable .words) (at-loop .loop .inv) _ taken
     (decided-met (at-held .is-held-once .result) (HeldOnce words (firstOf (at words i))) (answer .0) (c .if1 .left))
-    (at-held .is-held-once .kept .1 .1 .1 .0) (answer .1)
+    (at-held .is-held-once .kept .1 .1 .0) (answer .1)
 
 same-length-2 : tie.Need-same-length-2 Inv-loop μ-loop
 same-length-2 c =
-    let entry = c .before .before .before .before .before .before .before .before .before .before in
+    let entry = c .before .before .before .before .before .before .before .before .before in
     omega (arith, c .before .loop .inv .ids, entry .pre .1 .0)
 
 returns-2 : tie.Need-returns-2 Inv-loop μ-loop

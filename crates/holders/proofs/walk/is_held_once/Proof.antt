@@ -9,26 +9,26 @@ use Rattle.holders.proofs.walk.is_held_once.Statement.{statement}
 use Rattle.holders.proofs.walk.is_held_once.Tie as tie
 
 abbrev Inv-loop : tie.InvT-loop
-Inv-loop table latest before seen₀ z stamp link₀ seen link = Walking table seen z link
+Inv-loop table links seen₀ z stamp link₀ seen link = Walking table seen z link
 
 abbrev μ-loop : tie.MeasureT-loop
-μ-loop table latest before seen₀ z stamp link₀ seen link = link
+μ-loop table links seen₀ z stamp link₀ seen link = link
 
 stamp-of-requires : tie.Need-stamp-of-requires Inv-loop μ-loop
 stamp-of-requires c κs = search needs
 
-place-requires : tie.Need-place-requires Inv-loop μ-loop
-place-requires c κs = search needs
+latest-at-requires : tie.Need-latest-at-requires Inv-loop μ-loop
+latest-at-requires c κs = search needs
 
 number-at-requires : tie.Need-number-at-requires Inv-loop μ-loop
 number-at-requires c κs =
-    let entry = c .before .before .before .before .before .before in
-    omega (arith, c .place .ensures, entry .pre .linked .linkable .ids, entry .pre .id)
+    let entry = c .before .before .before .before .before in
+    omega (arith, c .latest-at .ensures, entry .pre .linked .linkable .places, entry .pre .id)
 
 loop-holds : tie.Need-loop-holds Inv-loop μ-loop
 loop-holds c =
-    let entry = c .before .before .before .before .before .before .before in
-    walking-start _ _ (rw (c .number-at .ensures, c .before .place .ensures) (entry .pre .linked .last (entry .args .z)))
+    let entry = c .before .before .before .before .before .before in
+    walking-start _ _ (rw (c .number-at .ensures, c .before .latest-at .ensures) (entry .pre .linked .last (entry .args .z)))
     (entry .pre .ids) (entry .pre .lower)
 
 sub-value-of : tie.Need-sub-value-of Inv-loop μ-loop
@@ -36,7 +36,7 @@ sub-value-of c = omega arith
 
 mul-value-of : tie.Need-mul-value-of Inv-loop μ-loop
 mul-value-of c =
-    let entry = c .before .before .before .before .before .before .before .before .before in
+    let entry = c .before .before .before .before .before .before .before .before in
     omega (arith, walking-place (c .before .loop .inv) (omega arith), entry .pre .linked .linkable .few)
 
 shared-slice-read-value-of : tie.Need-shared-slice-read-value-of Inv-loop μ-loop
@@ -48,20 +48,20 @@ value-of-requires c κs = search needs
 mul-if1 : tie.Need-mul-if1 Inv-loop μ-loop
 mul-if1 c =
     let at-loop = c .before .before .before in
-    let entry = at-loop .before .before .before .before .before .before .before .before in
+    let entry = at-loop .before .before .before .before .before .before .before in
     let within = value-within (at-loop .loop .inv) (entry .pre .linked .linkable .words) (omega arith) in
     omega (arith, c .value-of .ensures, within, at-loop .loop .inv .ids)
 
 slice-read-if1 : tie.Need-slice-read-if1 Inv-loop μ-loop
 slice-read-if1 c =
     let at-loop = c .before .before .before .before in
-    let entry = at-loop .before .before .before .before .before .before .before .before in
+    let entry = at-loop .before .before .before .before .before .before .before in
     rw (c .before .value-of .ensures) (value-within (at-loop .loop .inv) (entry .pre .linked .linkable .words) (omega arith))
 
 same-length : tie.Need-same-length Inv-loop μ-loop
 same-length c =
     let at-loop = c .before .before .before .before .before in
-    let entry = at-loop .before .before .before .before .before .before .before .before in
+    let entry = at-loop .before .before .before .before .before .before .before in
     omega (arith, at-loop .loop .inv .ids, entry .pre .ids)
 
 returns : tie.Need-returns Inv-loop μ-loop
@@ -83,14 +83,14 @@ sub-number-at c = omega arith
 number-at-requires-2 : tie.Need-number-at-requires-2 Inv-loop μ-loop
 number-at-requires-2 c κs =
     let at-loop = c .before .before .before .before .before in
-    let entry = at-loop .before .before .before .before .before .before .before .before in
+    let entry = at-loop .before .before .before .before .before .before .before in
     let links = entry .pre .linked .linkable in
     omega (arith, walking-place (at-loop .loop .inv) (omega arith), links .few, links .places)
 
 loop-less : tie.Need-loop-less Inv-loop μ-loop
 loop-less c =
     let at-loop = c .before .before .before .before .before .before in
-    let entry = at-loop .before .before .before .before .before .before .before .before in
+    let entry = at-loop .before .before .before .before .before .before .before in
     let next = entry .pre .linked .next (entry .args .z) (at-loop .loop .link - 1) (at-loop .loop .inv .here (omega arith)) in
     omega (arith, c .number-at2 .ensures, next .within)
 
@@ -98,7 +98,7 @@ loop-again : tie.Need-loop-again Inv-loop μ-loop
 loop-again c =
     let at-loop = c .before .before .before .before .before .before in
     let at-stamp-of = at-loop .before .before .before in
-    let entry = at-stamp-of .before .before .before .before .before in
+    let entry = at-stamp-of .before .before .before .before in
     let next = entry .pre .linked .next (entry .args .z) (at-loop .loop .link - 1) (at-loop .loop .inv .here (omega arith)) in
     let value = c .before .before .before .value-of .ensures in
     rw (value, at-stamp-of .stamp-of .ensures, c .number-at2 .ensures)
@@ -107,7 +107,7 @@ loop-again c =
 
 same-length-2 : tie.Need-same-length-2 Inv-loop μ-loop
 same-length-2 c =
-    let entry = c .before .before .before .before .before .before .before .before .before in
+    let entry = c .before .before .before .before .before .before .before .before in
     omega (arith, c .before .loop .inv .ids, entry .pre .ids)
 
 returns-2 : tie.Need-returns-2 Inv-loop μ-loop
@@ -120,7 +120,7 @@ is-held-once-spec =
     Inv-loop
     μ-loop
     stamp-of-requires
-    place-requires
+    latest-at-requires
     number-at-requires
     loop-holds
     sub-value-of

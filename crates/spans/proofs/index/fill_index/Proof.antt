@@ -3,7 +3,7 @@
 use mathlib.Core.Path.{subst}
 use native.Mathlib.Omega.{arith}
 use borrow.Author.Needs.{needs}
-use Rattle.spans.proofs.Entered.{Entered, entered-none, entered-more, entered-all, entry-within}
+use Rattle.spans.proofs.Entered.{Entered, entered-none, entered-more, entered-all, next-is-span, entry-within}
 use Rattle.spans.proofs.index.fill_index.Statement.{statement}
 use Rattle.spans.proofs.index.fill_index.Tie as tie
 
@@ -28,13 +28,19 @@ shared-slice-read-span-of c = omega arith
 span-of-requires : tie.Need-span-of-requires Inv-loop μ-loop
 span-of-requires c κs = search needs
 
+entry-of-requires : tie.Need-entry-of-requires Inv-loop μ-loop
+entry-of-requires c κs =
+    let entry = c .before .before .before .before .before .before in
+    rw (c .span-of .ensures) (next-is-span (entry .pre .words) _ (omega arith) (c .before .before .before .loop .inv))
+
 cast-index : tie.Need-cast-index Inv-loop μ-loop
 cast-index c = omega arith
 
 slice-write-index : tie.Need-slice-write-index Inv-loop μ-loop
 slice-write-index c =
-    let entry = c .before .before .before .before .before .before in
-    rw (c .span-of .ensures) (entry-within (entry .pre .words) _ (omega arith) (c .before .before .before .loop .inv))
+    let at-loop = c .before .before .before .before in
+    rw (c .entry-of .ensures, c .before .span-of .ensures)
+    (entry-within (at-loop .before .before .before .pre .words) _ (omega arith) (at-loop .loop .inv))
 
 mul-index : tie.Need-mul-index Inv-loop μ-loop
 mul-index c = omega (arith, slice-write-index c)
@@ -44,8 +50,9 @@ loop-less c = omega arith
 
 loop-again : tie.Need-loop-again Inv-loop μ-loop
 loop-again c =
-    let entry = c .before .before .before .before .before .before in
-    rw (c .span-of .ensures) (entered-more (entry .pre .words) _ (omega arith) (c .before .before .before .loop .inv))
+    let at-loop = c .before .before .before .before in
+    rw (c .entry-of .ensures, c .before .span-of .ensures)
+    (entered-more (at-loop .before .before .before .pre .words) _ (omega arith) (at-loop .loop .inv))
 
 same-length : tie.Need-same-length Inv-loop μ-loop
 same-length c = omega (arith, c .before .loop .inv .spans)
@@ -66,6 +73,7 @@ fill-index-spec =
     mul-span-of
     shared-slice-read-span-of
     span-of-requires
+    entry-of-requires
     cast-index
     mul-index
     slice-write-index
