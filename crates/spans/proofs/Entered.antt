@@ -59,10 +59,10 @@ entry-one : (j k : ℕ) → IsSpan j → IsSpan k → entryOf j ≡ entryOf k �
 entry-one j k (p, q) (r, s) e = omega arith
 
 module _ {t s : List ℕ} (F : FactWords t) (i : ℕ) (p : 0 < i) (E : Entered t s i) where
-  -- The place of the store is in the index.
   pub next-is-span : IsSpan (nextSpan t i)
   next-is-span = is-span F (i - 1) (omega (arith, E .within))
 
+  -- The place of the store is in the index.
   pub entry-within : entryOf (nextSpan t i) < length s
   entry-within = omega (arith, E .spans, next-is-span .1)
 
