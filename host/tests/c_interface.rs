@@ -168,7 +168,7 @@ fn stack_of_readme() -> Vec<(String, u64)> {
     section.lines().take_while(|line| !line.starts_with("## ")).filter_map(row).collect()
 }
 
-/// No call takes more than README says, nor less by as much as a compiler's choices would not explain.
+/// No call takes more than README says, nor less by 256 bytes or more.
 #[test]
 fn the_calls_take_the_stack_that_readme_says() {
     let said = stack_of_readme();

@@ -40,7 +40,8 @@ pub enum Visited {
     Broken(Rule),
 }
 
-// The same of the rules before E2, by an index of spans that is gone when it answers.
+// How many of the rules before E2 are met before the first that is broken, by an index of spans that is gone
+// when it answers.
 fn count_indexed(words: &[Word]) -> usize
     requires words { ⌜ FactWords (now words) ⌝ }
     requires few { ⌜ length (now words) ≤ product .most ⌝ }

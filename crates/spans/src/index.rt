@@ -15,7 +15,7 @@ ghost use Rattle.spans.specs.Sought.{Kind};
 pub const IDS: Word = TOP + 1;
 
 // The number of the first span. Kind 0 has none.
-const FIRST: usize = TOP as usize + 1;
+const FIRST: usize = IDS as usize;
 
 pub const SPANS: usize = KINDS as usize * FIRST;
 
