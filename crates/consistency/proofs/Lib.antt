@@ -1,8 +1,10 @@
 -- Visiting: `visit`. Listed, Linked, Same: `count_met`. MetLaws: `first_broken`, `check` and the crates above. Refused: `check`
--- and the crates above.
+-- and the crates above. Places: the places of the rules. OrderTheorems: what is proved of the visit and of `check`.
 mod Listed
 pub mod MetLaws
+pub mod Places
 mod Visiting
 mod Same
 mod Linked
 pub mod Refused
+pub mod OrderTheorems

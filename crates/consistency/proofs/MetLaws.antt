@@ -6,7 +6,7 @@ use mathlib.Core.List.{List, [], _∷_}
 use native.Mathlib.Omega.{arith}
 use lib.ListN.{length}
 use Rattle.rdfs.specs.Facts.{Graph}
-use Rattle.rdfs.specs.Rules.{Rule}
+use Rattle.rdfs.specs.Rules.{Rule, Meets}
 use Rattle.consistency.specs.Order.{
   ruleAt,
   MetFirst,
@@ -48,3 +48,25 @@ module _ {G : Graph} where
   pub broken-not : {l : List Rule} {r : Rule} → FirstBroken G r l → MeetsAll G l → ⊥
   broken-not (here n) (also p m) = n p
   broken-not (later k f) (also p m) = broken-not f m
+
+  -- The rules before the first that is broken are met, and it is not.
+  pub met-before : {l : List Rule} {n : ℕ} → MetFirst G l n → (j : ℕ) → j < n → Meets G (ruleAt l j)
+  met-before end j h = absurd (omega arith)
+  met-before (stop b) j h = absurd (omega arith)
+  met-before (pass p m) zero h = p
+  met-before (pass p m) (suc j) h = met-before m j (omega arith)
+
+  pub met-stops : {l : List Rule} {n : ℕ} → MetFirst G l n → n < length l → Meets G (ruleAt l n) → ⊥
+  met-stops end h q = absurd (omega arith)
+  met-stops (stop b) h q = b q
+  met-stops (pass p m) h q = met-stops m (omega arith) q
+
+  -- The other way round: how many are met if all are, or if one is the first that is broken.
+  pub all-counted : {l : List Rule} → MeetsAll G l → MetFirst G l (length l)
+  all-counted none = end
+  all-counted (also p m) = pass p (all-counted m)
+
+  pub broken-counted : {l : List Rule} {r : Rule} → FirstBroken G r l
+      → (n : ℕ) × (ruleAt l n ≡ r) × (n < length l) × MetFirst G l n
+  broken-counted (here b) = (0, refl, omega arith, stop b)
+  broken-counted (later p f) = let c = broken-counted f in (suc (c .0), c .1, omega (arith, c .2), pass p (c .3))

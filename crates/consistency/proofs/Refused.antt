@@ -18,7 +18,7 @@ use Rattle.table.proofs.TestAnswers.{is-true, is-false}
 use Rattle.table.proofs.Sizes.{tests-size}
 use Rattle.table.proofs.TableRefusals.{taken-laid}
 use Rattle.consistency.specs.Order.{rulesInOrder, MetFirst}
-use Rattle.consistency.proofs.MetLaws.{met-all, met-broken, broken-not}
+use Rattle.consistency.proofs.MetLaws.{met-all, met-broken, broken-not, all-counted}
 use Rattle.consistency.proofs.Visiting.{all-consistent, consistent-all}
 
 -- Facts of which n rules are met before the first that is broken are consistent exactly if n is the number of all rules.
@@ -34,6 +34,10 @@ module _ (K : List Fact) {n : ℕ} (m : MetFirst (graph K) rulesInOrder n) where
     | yes l ↦ l
     | no q ↦ absurd (h (met-consistent (omega (arith, q))))
   ]
+
+-- Consistent facts meet all rules.
+pub consistent-counted : (K : List Fact) → T (consistent? K) → MetFirst (graph K) rulesInOrder (length rulesInOrder)
+consistent-counted K t = all-counted (consistent-all (graph K) (check-sound K t))
 
 -- Refusals 1 and 2 come first.
 first-two : (size layout : Bool) (rest a : ℕ) → a ≡ orElse size 1 (orElse layout 2 0) → (a ≡ 0 → ⊥)

@@ -9,9 +9,11 @@ use native.Mathlib.Omega.{arith}
 use lib.Dec.{lit≤}
 use lib.ListN.{length}
 use Rattle.rdfs.specs.Facts.{Graph}
-use Rattle.rdfs.specs.Rules.{Rule, Meets, e2}
+use Rattle.rdfs.specs.Rules.{Rule, Meets, r4, r5, r6, r7, r8, r9, r10, r11, r12, r13, r14, r15, r16, r17, r18, r19, r20, r21}
+use Rattle.rdfs.specs.Rules.{r22, r23, r24, r25, r26, r27, h1, h2, h3, h4, e1, e2}
 use Rattle.rdfs.specs.Consistency.{Consistent}
 use Rattle.rules.specs.Earlier.{Earlier}
+use Rattle.consistency.specs.Printed.{placeOf}
 use Rattle.consistency.specs.Order.{
   rulesInOrder,
   ruleAt,
@@ -25,7 +27,8 @@ use Rattle.consistency.specs.Order.{
   none,
   also,
 }
-use Rattle.consistency.proofs.MetLaws.{met-all}
+use Rattle.consistency.proofs.MetLaws.{met-before, all-counted}
+use Rattle.consistency.proofs.Places.{at-place}
 
 -- Each rule before place i is met.
 abbrev pub MetBefore : Graph → List Rule → ℕ → Type 0
@@ -94,54 +97,78 @@ module _ (G : Graph) where
       (λ k p. let e : n ≡ indexedCount = omega (arith, m .within, h) in
       broken (subst (λ i. Meets G (ruleAt rulesInOrder i)) e p))
 
-  met-at : (l : List Rule) → MeetsAll G l → MetBefore G l (length l)
-  met-at [] none j h = absurd (omega arith)
-  met-at (r ∷ l) (also p m) zero h = p
-  met-at (r ∷ l) (also p m) (suc j) h = met-at l m j (omega arith)
-
-  pub consistent-all : Consistent G → MeetsAll G rulesInOrder
-  consistent-all c = met-all (visit-ends rulesInOrder (each-at rulesInOrder (λ i r. Meets G r) met)) (lit≤ tt)
-    where
-      met : EachPlace (λ i r. Meets G r) rulesInOrder
-      met =
-          c .rule-4 ⨾ c .rule-5 ⨾ c .rule-6 ⨾ c .rule-7 ⨾ c .rule-8 ⨾ c .rule-9 ⨾ c .rule-10 ⨾
-          c .rule-11 ⨾ c .rule-12 ⨾ c .rule-13 ⨾ c .rule-14 ⨾ c .rule-15 ⨾ c .rule-16 ⨾ c .rule-17 ⨾
-          c .rule-18 ⨾ c .rule-19 ⨾ c .rule-20 ⨾ c .rule-21 ⨾ c .rule-22 ⨾ c .rule-23 ⨾ c .rule-24 ⨾
-          c .rule-25 ⨾ c .rule-26 ⨾ c .rule-27 ⨾ c .rule-h1 ⨾ c .rule-h2 ⨾ c .rule-h3 ⨾ c .rule-h4 ⨾
-          c .rule-e1 ⨾ c .rule-e2 ⨾ tt
-
   pub all-consistent : MeetsAll G rulesInOrder → Consistent G
   all-consistent m =
-      let at = met-at rulesInOrder m in
+      let at : (r : Rule) → Meets G r = λ r. subst (Meets G) (at-place r .1)
+      (met-before (all-counted m) (placeOf r) (at-place r .0)) in
       record {
-        rule-4 = at 0 (lit≤ tt);
-        rule-5 = at 1 (lit≤ tt);
-        rule-6 = at 2 (lit≤ tt);
-        rule-7 = at 3 (lit≤ tt);
-        rule-8 = at 4 (lit≤ tt);
-        rule-9 = at 5 (lit≤ tt);
-        rule-10 = at 6 (lit≤ tt);
-        rule-11 = at 7 (lit≤ tt);
-        rule-12 = at 8 (lit≤ tt);
-        rule-13 = at 9 (lit≤ tt);
-        rule-14 = at 10 (lit≤ tt);
-        rule-15 = at 11 (lit≤ tt);
-        rule-16 = at 12 (lit≤ tt);
-        rule-17 = at 13 (lit≤ tt);
-        rule-18 = at 14 (lit≤ tt);
-        rule-19 = at 15 (lit≤ tt);
-        rule-20 = at 16 (lit≤ tt);
-        rule-21 = at 17 (lit≤ tt);
-        rule-22 = at 18 (lit≤ tt);
-        rule-23 = at 19 (lit≤ tt);
-        rule-24 = at 20 (lit≤ tt);
-        rule-25 = at 21 (lit≤ tt);
-        rule-26 = at 22 (lit≤ tt);
-        rule-27 = at 23 (lit≤ tt);
-        rule-h1 = at 24 (lit≤ tt);
-        rule-h2 = at 25 (lit≤ tt);
-        rule-h3 = at 26 (lit≤ tt);
-        rule-h4 = at 27 (lit≤ tt);
-        rule-e1 = at 28 (lit≤ tt);
-        rule-e2 = at 29 (lit≤ tt);
+        rule-4 = at r4;
+        rule-5 = at r5;
+        rule-6 = at r6;
+        rule-7 = at r7;
+        rule-8 = at r8;
+        rule-9 = at r9;
+        rule-10 = at r10;
+        rule-11 = at r11;
+        rule-12 = at r12;
+        rule-13 = at r13;
+        rule-14 = at r14;
+        rule-15 = at r15;
+        rule-16 = at r16;
+        rule-17 = at r17;
+        rule-18 = at r18;
+        rule-19 = at r19;
+        rule-20 = at r20;
+        rule-21 = at r21;
+        rule-22 = at r22;
+        rule-23 = at r23;
+        rule-24 = at r24;
+        rule-25 = at r25;
+        rule-26 = at r26;
+        rule-27 = at r27;
+        rule-h1 = at h1;
+        rule-h2 = at h2;
+        rule-h3 = at h3;
+        rule-h4 = at h4;
+        rule-e1 = at e1;
+        rule-e2 = at e2;
       }
+
+  each-met : Consistent G → (r : Rule) → Meets G r
+  each-met c r4 = c .rule-4
+  each-met c r5 = c .rule-5
+  each-met c r6 = c .rule-6
+  each-met c r7 = c .rule-7
+  each-met c r8 = c .rule-8
+  each-met c r9 = c .rule-9
+  each-met c r10 = c .rule-10
+  each-met c r11 = c .rule-11
+  each-met c r12 = c .rule-12
+  each-met c r13 = c .rule-13
+  each-met c r14 = c .rule-14
+  each-met c r15 = c .rule-15
+  each-met c r16 = c .rule-16
+  each-met c r17 = c .rule-17
+  each-met c r18 = c .rule-18
+  each-met c r19 = c .rule-19
+  each-met c r20 = c .rule-20
+  each-met c r21 = c .rule-21
+  each-met c r22 = c .rule-22
+  each-met c r23 = c .rule-23
+  each-met c r24 = c .rule-24
+  each-met c r25 = c .rule-25
+  each-met c r26 = c .rule-26
+  each-met c r27 = c .rule-27
+  each-met c h1 = c .rule-h1
+  each-met c h2 = c .rule-h2
+  each-met c h3 = c .rule-h3
+  each-met c h4 = c .rule-h4
+  each-met c e1 = c .rule-e1
+  each-met c e2 = c .rule-e2
+
+  listed-met : ((r : Rule) → Meets G r) → (l : List Rule) → MeetsAll G l
+  listed-met m [] = none
+  listed-met m (r ∷ l) = also (m r) (listed-met m l)
+
+  pub consistent-all : Consistent G → MeetsAll G rulesInOrder
+  consistent-all c = listed-met (each-met c) rulesInOrder

@@ -38,6 +38,7 @@ use Rattle.rdfs.specs.Rules.{
   e2,
 }
 use Rattle.rules.specs.RuleOf.{ruleOf}
+use Rattle.consistency.specs.Printed.{placeOf}
 use Rattle.consistency.specs.declared.Visited.{Visited}
 use Rattle.consistency.specs.declared.Visited.the-variants.{AllMet, Broken}
 
@@ -84,3 +85,12 @@ pub data FirstBroken (G : Graph) (r : Rule) : List Rule → Type 0 where
 abbrev pub Answers : Graph → List Rule → Visited → Type 0
 Answers G l AllMet = MeetsAll G l
 Answers G l (Broken q) = FirstBroken G (ruleOf q) l
+
+-- The rule at place i and all before it are met.
+abbrev pub MetThrough : Graph → ℕ → Type 0
+MetThrough G i = (j : ℕ) → j ≤ i → Meets G (ruleAt rulesInOrder j)
+
+-- A visit that found this got past place i: it met all rules, or the rule where it stopped stands after i.
+abbrev pub Past : Visited → ℕ → Type 0
+Past AllMet i = Unit {0}
+Past (Broken q) i = i < placeOf (ruleOf q)

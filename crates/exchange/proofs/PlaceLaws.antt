@@ -9,7 +9,7 @@ use lib.ListN.{length}
 use Rattle.rdfs.specs.Facts.{Fact, Graph, graph}
 use Rattle.rdfs.specs.Clashes.{consistent?}
 use Rattle.rdfs.specs.Refusals.{orElse}
-use Rattle.consistency.specs.Order.{rulesInOrder, ruleAt, FirstBroken}
+use Rattle.consistency.specs.Order.{rulesInOrder, ruleAt, MetFirst, FirstBroken}
 use Rattle.consistency.proofs.MetLaws.{met-within, met-one, met-broken}
 use Rattle.consistency.proofs.Refused.{inconsistent-broken}
 use Rattle.exchange.specs.PlaceTold.{PlaceTold, none, broken}
@@ -33,10 +33,18 @@ module _ {answer : ℕ} {G : Graph} where
   place-none (none h) n = refl
   place-none (broken e m) n = absurd (n e)
 
+  pub place-counted : {p : ℕ} → PlaceTold answer G p → answer ≡ 3 → (n : ℕ) × (p ≡ suc n) × MetFirst G rulesInOrder n
+  place-counted (none h) e = absurd (h e)
+  place-counted (broken {met = n} q m) e = (n, refl, m)
+
 -- Refusal 3 is given only if the test of consistency fails.
 pub third-breaks : (consistent : Bool) → orElse (not consistent) 3 0 ≡ 3 → T consistent → ⊥
 third-breaks true q t = omega (arith, q)
 third-breaks false q t = t
+
+pub zero-meets : (consistent : Bool) → orElse (not consistent) 3 0 ≡ 0 → T consistent
+zero-meets true q = tt
+zero-meets false q = absurd (omega (arith, q))
 
 pub place-names : {answer : ℕ} (K : List Fact) {p : ℕ} → PlaceTold answer (graph K) p → answer ≡ 3 → (T (consistent? K) → ⊥)
     → NamesFirst (graph K) p

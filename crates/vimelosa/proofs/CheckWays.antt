@@ -25,17 +25,21 @@ use Rattle.contents.proofs.RoundTrip.{read-well}
 use Rattle.consistency.specs.Order.{rulesInOrder, MetFirst}
 use Rattle.reading.specs.ReadPromise.{imageWords, readAnswer, readWords}
 use Rattle.reading.proofs.Held.{held-facts, held-laid}
-use Rattle.reading.proofs.ReadCall.{read-refused, read-judged}
+use Rattle.reading.proofs.ReadCall.{read-refused, read-judged, read-parts}
 use Rattle.exchange.specs.ToText.{room}
 use Rattle.packing.specs.Packed.{packed}
 use Rattle.exchange.specs.PlaceTold.{none, broken}
-use Rattle.exchange.proofs.PlaceLaws.{third-breaks}
+use Rattle.exchange.proofs.PlaceLaws.{third-breaks, zero-meets}
 use Rattle.vimelosa.specs.HostCheck.{HostCheckPromise}
 
 -- Accepted, or refused with another number.
 pub way-other : (image : List ℕ) (n r : ℕ) → n ≡ readAnswer room image → (n ≡ 3 → ⊥) → r ≡ packed n 0 0 0
     → HostCheckPromise image r
 way-other image n r e h p = record { place = 0; number = p ∙ ap (λ m. packed m 0 0 0) e; rule = none (λ q. h (e ∙ q)) }
+
+-- An image that is read is consistent.
+pub accepted-consistent : (image : List ℕ) → readAnswer room image ≡ 0 → T (consistent? (facts product (imageWords image)))
+accepted-consistent image e = zero-meets (consistent? (facts product (imageWords image))) (read-parts room image (sym e) .3)
 
 module _ (image : List ℕ) (e : readAnswer room image ≡ 3) where
   abbrev words : List ℕ

@@ -30,7 +30,7 @@ meets-requires c κs =
     let entry = at-loop .before .before .before in (
       entry .pre,
       rw (c .rule-at .ensures) (visit-earlier (graphOf (now (entry .args .table))) (at-loop .loop .at)
-          (c .before .loop-test .taken) (at-loop .loop .inv .1)),
+          (omega (arith, c .before .loop-test .taken)) (at-loop .loop .inv .1)),
     )
 
 returns : tie.Need-returns Inv-loop μ-loop
@@ -41,7 +41,7 @@ returns c =
     let i = at-loop .loop .at in
     let answer = rw (c .before .before .rule-at .ensures) at (c .before .meets .ensures) in
     record {
-      within = at-loop .loop .inv .0;
+      within = omega (arith, at-loop .loop .inv .0);
       before = at-loop .loop .inv .1;
       broken = λ h. decided-broken (c .before .meets .result) (Meets G (ruleAt rulesInOrder i)) answer (c .if1 .taken);
     }
