@@ -1,5 +1,6 @@
 -- Visiting: `visit`. Listed, Linked, Same: `count_met`. MetLaws: `first_broken`, `check` and the crates above. Refused: `check`
--- and the crates above. Places: the places of the rules. OrderTheorems: what is proved of the visit and of `check`.
+-- and the crates above. Places: the places of the rules. OrderTheorems: what is proved of the visit and of `check`;
+-- OrderTied: their contracts.
 mod Listed
 pub mod MetLaws
 pub mod Places
@@ -8,3 +9,4 @@ mod Same
 mod Linked
 pub mod Refused
 pub mod OrderTheorems
+pub mod OrderTied

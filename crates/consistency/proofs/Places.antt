@@ -7,7 +7,7 @@ use lib.Dec.{lit≤}
 use lib.ListN.{length, getD, List·getD-map}
 use Rattle.rdfs.specs.Rules.{Rule, r4, r5, r6, r7, r8, r9, r10, r11, r12, r13, r14, r15, r16, r17, r18, r19, r20, r21, r22}
 use Rattle.rdfs.specs.Rules.{r23, r24, r25, r26, r27, h1, h2, h3, h4, e1, e2}
-use Rattle.consistency.specs.Printed.{numbersFrom, fromTo, placeOf}
+use Rattle.consistency.specs.Printed.{numbersFrom, placeOf}
 use Rattle.consistency.specs.Order.{rulesInOrder, ruleAt}
 
 numbers-at : (n k i d : ℕ) → i < k → getD (numbersFrom n k) i d ≡ n + i
@@ -15,13 +15,14 @@ numbers-at n zero i d h = absurd (omega arith)
 numbers-at n (suc k) zero d h = omega arith
 numbers-at n (suc k) (suc i) d h = numbers-at (suc n) k i d (omega arith) ∙ omega arith
 
-pub places-in-order : map placeOf rulesInOrder ≡ fromTo 0 29
+pub places-in-order : map placeOf rulesInOrder ≡ numbersFrom 0 (length rulesInOrder)
 places-in-order = refl
 
 -- The rule at a place has that place.
 pub place-at : (i : ℕ) → i < length rulesInOrder → placeOf (ruleAt rulesInOrder i) ≡ i
 place-at i h =
-    sym (List·getD-map placeOf rulesInOrder i r4) ∙ (ap (λ l. getD l i 0) places-in-order ∙ (numbers-at 0 30 i 0 h ∙ omega arith))
+    sym (List·getD-map placeOf rulesInOrder i r4) ∙ (ap (λ l. getD l i 0) places-in-order ∙ (numbers-at 0 (length rulesInOrder) i 0 h
+    ∙ omega arith))
 
 -- Each rule stands at its place.
 pub at-place : (r : Rule) → (placeOf r < length rulesInOrder) × (ruleAt rulesInOrder (placeOf r) ≡ r)

@@ -2,8 +2,8 @@
 -- order, then H1 to H4 and the two of Ask 3".
 use Prim.Native.Nat.{ℕ, zero, suc, _+_, _-_}
 use mathlib.Core.List.{List, [], _∷_, map, _++_}
-use Rattle.rdfs.specs.Rules.{Rule, r4, r5, r6, r7, r8, r9, r10, r11, r12, r13, r14, r15, r16, r17, r18, r19, r20}
-use Rattle.rdfs.specs.Rules.{r21, r22, r23, r24, r25, r26, r27, h1, h2, h3, h4, e1, e2}
+use Rattle.rdfs.specs.Rules.{Rule, r4, r5, r6, r7, r8, r9, r10, r11, r12, r13, r14, r15, r16, r17, r18, r19}
+use Rattle.rdfs.specs.Rules.{r20, r21, r22, r23, r24, r25, r26, r27, h1, h2, h3, h4, e1, e2}
 
 -- A number in Fig. 3; one of document 01's own, H1 to H4; the first or the second of Ask 3, E1 and E2.
 pub data Name : Type 0 where

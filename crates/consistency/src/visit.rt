@@ -14,6 +14,7 @@ pub const RULES: usize = 30;
 // Those before E2, which are tested by the index of spans.
 pub const INDEXED: usize = RULES - 1;
 
+// Fig. 3 from 4 to 27 as printed, then H1 to H4 of document 01, then the two of Ask 3 of document 02.
 const ORDER: [Rule; RULES] = [
     Rule::R4,
     Rule::R5,

@@ -1,5 +1,6 @@
--- What is proved of the host's check: it answers as reading does, names the first broken rule for 3 and none else, gets past each
--- place exactly if the rule there and all before it are met, and its number is one. All that is known of its number r is its contract, `HostCheckPromise`. Assumes nothing.
+-- What is proved of the host's check: it answers as reading does, names the first broken rule for 3 and none else, gets past
+-- each place exactly if the rule there and all before it are met, and its number is one. All that is known of its number r is
+-- its contract, `HostCheckPromise`. Assumes nothing.
 use Prim.Native.Nat.{ℕ, suc, _<_}
 use mathlib.Core.Path.{_≡_, sym, ap, subst, _∙_}
 use mathlib.Core.Logic.{_⊎_, inl, inr, ⊎-elim}

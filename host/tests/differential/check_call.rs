@@ -55,7 +55,7 @@ fn one_for_each_rule() -> [Graph; 30] {
         with(&[value(8, 20, 5)]),                          // 12
         with(&[class(20)]),                                // 13
         with(&[individual(20)]),                           // 14
-        plant().without(range(6, MARK)),                   // 15
+        with(&[property(20), domain(20, 2)]),              // 15
         with(&[domain(5, 3)]),                             // 16
         with(&[range(5, MARK)]),                           // 17
         with(&[class(4), subclass(4, 0), subclass(4, 3)]), // 18
@@ -107,6 +107,47 @@ fn two_readings_give_the_same_rule() {
         let place = rules::first_broken(&graph).map(rules::place_of);
         assert_eq!(place, plain::first_broken(&graph), "{graph:?}");
     }
+}
+
+/// The check got past a place, counted from 1: it answers 0, or names a rule after it.
+fn got_past(number: u64, place: usize) -> bool {
+    number == 0 || place < (number >> 16) as usize
+}
+
+/// Ask 4 of document 02: the check gets past each rule exactly if the graph meets it and all before it.
+#[test]
+fn gets_past_each_rule_exactly_if_it_and_all_before_are_met() {
+    let mut random = Random::for_test("check_gets_past");
+    for round in 0..rounds(600) {
+        let graph = broken(&mut random, [&SHARED, &FEW][round % 2]);
+        let (number, met) = (same_check(&image(&graph)), plain::met(&graph));
+        for place in 1..=30 {
+            let met_so_far = met[..place].iter().all(|is_met| *is_met);
+            assert_eq!(got_past(number, place), met_so_far, "{place} {graph:?}");
+        }
+    }
+}
+
+/// Of two graphs, each of which breaks a rule, the facts of both: the check stops at the earlier of the rules
+/// that are broken. Each rule but the last is told while a later one is broken too; H1 is so where nothing
+/// but Excl stands.
+#[test]
+fn tells_the_earlier_of_two() {
+    assert_eq!(same_check(&image(&Graph::of([exclusive(8)]))), broken_at(25));
+    let graphs = one_for_each_rule();
+    let mut told = [0; 31];
+    for (at, one) in graphs.iter().enumerate() {
+        for other in &graphs[at + 1..] {
+            let both = Graph::of(one.facts().chain(other.facts()));
+            let met = plain::met(&both);
+            // A fact of one graph can be what the other lacks.
+            if let Some(first) = met.iter().position(|is_met| !is_met) {
+                assert_eq!(same_check(&image(&both)), broken_at(first + 1), "{both:?}");
+                told[first + 1] += usize::from(met[first + 1..].contains(&false));
+            }
+        }
+    }
+    assert!((1..30).all(|place| place == 25 || told[place] > 0), "{told:?}");
 }
 
 #[test]

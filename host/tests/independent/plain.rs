@@ -95,11 +95,15 @@ fn is_met(rule: &Rule, graph: &Graph, ids: &[u8], chosen: [u8; 4], place: usize)
     })
 }
 
+/// Whether the graph meets each rule, in order, whatever it makes of those before it.
+pub fn met(graph: &Graph) -> [bool; 30] {
+    let ids = ids_in(graph);
+    RULES.map(|rule| is_met(&rule, graph, &ids, [0; 4], 0))
+}
+
 /// The place of the first rule that the graph breaks, counted from 1, if it breaks one.
 pub fn first_broken(graph: &Graph) -> Option<usize> {
-    let ids = ids_in(graph);
-    let broken = RULES.iter().position(|rule| !is_met(rule, graph, &ids, [0; 4], 0));
-    broken.map(|place| place + 1)
+    met(graph).iter().position(|is_met| !is_met).map(|place| place + 1)
 }
 
 /// The graph meets every rule.
