@@ -28,7 +28,6 @@ use Rattle.consistency.specs.Order.{
   also,
 }
 use Rattle.consistency.proofs.MetLaws.{met-before, all-counted}
-use Rattle.consistency.proofs.Places.{at-place}
 
 -- Each rule before place i is met.
 abbrev pub MetBefore : Graph → List Rule → ℕ → Type 0
@@ -99,39 +98,39 @@ module _ (G : Graph) where
 
   pub all-consistent : MeetsAll G rulesInOrder → Consistent G
   all-consistent m =
-      let at : (r : Rule) → Meets G r = λ r. subst (Meets G) (at-place r .1)
-      (met-before (all-counted m) (placeOf r) (at-place r .0)) in
+      let at : (r : Rule) → placeOf r < length rulesInOrder → Meets G (ruleAt rulesInOrder (placeOf r)) =
+      λ r. met-before (all-counted m) (placeOf r) in
       record {
-        rule-4 = at r4;
-        rule-5 = at r5;
-        rule-6 = at r6;
-        rule-7 = at r7;
-        rule-8 = at r8;
-        rule-9 = at r9;
-        rule-10 = at r10;
-        rule-11 = at r11;
-        rule-12 = at r12;
-        rule-13 = at r13;
-        rule-14 = at r14;
-        rule-15 = at r15;
-        rule-16 = at r16;
-        rule-17 = at r17;
-        rule-18 = at r18;
-        rule-19 = at r19;
-        rule-20 = at r20;
-        rule-21 = at r21;
-        rule-22 = at r22;
-        rule-23 = at r23;
-        rule-24 = at r24;
-        rule-25 = at r25;
-        rule-26 = at r26;
-        rule-27 = at r27;
-        rule-h1 = at h1;
-        rule-h2 = at h2;
-        rule-h3 = at h3;
-        rule-h4 = at h4;
-        rule-e1 = at e1;
-        rule-e2 = at e2;
+        rule-4 = at r4 (lit≤ tt);
+        rule-5 = at r5 (lit≤ tt);
+        rule-6 = at r6 (lit≤ tt);
+        rule-7 = at r7 (lit≤ tt);
+        rule-8 = at r8 (lit≤ tt);
+        rule-9 = at r9 (lit≤ tt);
+        rule-10 = at r10 (lit≤ tt);
+        rule-11 = at r11 (lit≤ tt);
+        rule-12 = at r12 (lit≤ tt);
+        rule-13 = at r13 (lit≤ tt);
+        rule-14 = at r14 (lit≤ tt);
+        rule-15 = at r15 (lit≤ tt);
+        rule-16 = at r16 (lit≤ tt);
+        rule-17 = at r17 (lit≤ tt);
+        rule-18 = at r18 (lit≤ tt);
+        rule-19 = at r19 (lit≤ tt);
+        rule-20 = at r20 (lit≤ tt);
+        rule-21 = at r21 (lit≤ tt);
+        rule-22 = at r22 (lit≤ tt);
+        rule-23 = at r23 (lit≤ tt);
+        rule-24 = at r24 (lit≤ tt);
+        rule-25 = at r25 (lit≤ tt);
+        rule-26 = at r26 (lit≤ tt);
+        rule-27 = at r27 (lit≤ tt);
+        rule-h1 = at h1 (lit≤ tt);
+        rule-h2 = at h2 (lit≤ tt);
+        rule-h3 = at h3 (lit≤ tt);
+        rule-h4 = at h4 (lit≤ tt);
+        rule-e1 = at e1 (lit≤ tt);
+        rule-e2 = at e2 (lit≤ tt);
       }
 
   each-met : Consistent G → (r : Rule) → Meets G r
