@@ -85,7 +85,8 @@ enum vimelosa_operation {
     VIMELOSA_DELETE = 2
 };
 
-/* The kinds of facts. Tickets have all but 7 and 8, which come and go with their property. */
+/* The kinds of facts. Tickets have all but 7 and 8, which come and go with their property; operators' tickets
+ * have 3, 4, 9 and 10 alone. */
 enum vimelosa_kind {
     /* a is a class. */
     VIMELOSA_CLASS = 1,
@@ -151,7 +152,10 @@ enum vimelosa_refusal {
     VIMELOSA_OUTSIDE_PROFILE = 15,
     /* The ticket inserts a membership in a class that the graph does not have. Among a ticket's refusals it
      * stands between 9 and 10. */
-    VIMELOSA_UNKNOWN_CLASS = 16
+    VIMELOSA_UNKNOWN_CLASS = 16,
+    /* The kind of an operator's ticket is not for operators. Among the refusals of such a ticket it stands
+     * between 7 and 8; no call for other tickets gives it. */
+    VIMELOSA_NOT_FOR_OPERATORS = 17
 };
 
 /* Applies one ticket to the image's graph and writes the new image to the output.
@@ -181,6 +185,31 @@ uint64_t vimelosa_apply_list(const uint8_t *image, size_t image_length,
                              const uint8_t *tickets, size_t tickets_length,
                              uint8_t *answers, size_t answers_length,
                              uint8_t *output, size_t output_length);
+
+/* Applies one ticket of a shift operator, as vimelosa_apply does, if its kind is VIMELOSA_INDIVIDUAL,
+ * VIMELOSA_LITERAL, VIMELOSA_MEMBER or VIMELOSA_VALUE; with another kind it is refused with 17. Accepted or
+ * not, the ticket leaves every fact of the other kinds, and adds none.
+ *
+ * Refusals, in this order: 12, 11, 3 of the image; 4, 5, 6, 7, 17, 8, 9, 16, 10, 11 of the ticket; 13 of the
+ * output.
+ *
+ * The result has the parts of vimelosa_apply's, and the output is left as vimelosa_apply leaves it. */
+uint64_t vimelosa_apply_operator(const uint8_t *image, size_t image_length,
+                                 const uint8_t *ticket, size_t ticket_length,
+                                 uint8_t *output, size_t output_length);
+
+/* Runs a list of operators' tickets, as vimelosa_apply_list does; each ticket's byte of `answers` is the
+ * number that vimelosa_apply_operator would give it: 0, or 4 to 11, or 16, or 17. Accepted or not, the
+ * tickets leave every fact of the kinds that are not for operators, and add none.
+ *
+ * Refusals of the call, in this order: 12, 11, 3 of the image; 14 of the answers; 13 of the output.
+ *
+ * The result has the parts of vimelosa_apply_list's, and answers and output are left as vimelosa_apply_list
+ * leaves them. */
+uint64_t vimelosa_apply_operator_list(const uint8_t *image, size_t image_length,
+                                      const uint8_t *tickets, size_t tickets_length,
+                                      uint8_t *answers, size_t answers_length,
+                                      uint8_t *output, size_t output_length);
 
 /* Reads the image and writes nothing: 0 if it is well formed and its graph is consistent.
  *
@@ -214,27 +243,27 @@ static inline uint16_t vimelosa_answer(uint64_t result) {
     return (uint16_t)(result & 0xffff);
 }
 
-/* Of vimelosa_apply: how many facts the new graph has that the old one has not. */
+/* Of vimelosa_apply and vimelosa_apply_operator: how many facts the new graph has that the old has not. */
 static inline uint16_t vimelosa_added(uint64_t result) {
     return (uint16_t)(result >> 16 & 0xffff);
 }
 
-/* Of vimelosa_apply: how many facts the old graph has that the new one has not. */
+/* Of vimelosa_apply and vimelosa_apply_operator: how many facts the old graph has that the new has not. */
 static inline uint16_t vimelosa_removed(uint64_t result) {
     return (uint16_t)(result >> 32 & 0xffff);
 }
 
-/* Of vimelosa_apply_list: how many tickets were accepted. */
+/* Of vimelosa_apply_list and vimelosa_apply_operator_list: how many tickets were accepted. */
 static inline uint16_t vimelosa_accepted(uint64_t result) {
     return (uint16_t)(result >> 16 & 0xffff);
 }
 
-/* Of vimelosa_apply_list: how many tickets were refused. */
+/* Of vimelosa_apply_list and vimelosa_apply_operator_list: how many tickets were refused. */
 static inline uint16_t vimelosa_refused(uint64_t result) {
     return (uint16_t)(result >> 32 & 0xffff);
 }
 
-/* Of vimelosa_apply, vimelosa_apply_list and vimelosa_read_triples: how many bytes the new image has. */
+/* Of the calls that run tickets and of vimelosa_read_triples: how many bytes the new image has. */
 static inline size_t vimelosa_length(uint64_t result) {
     return (size_t)(result >> 48);
 }

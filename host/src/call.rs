@@ -1,6 +1,6 @@
 //! The host calls over bytes that the caller lends, their numbers taken apart.
 
-use crate::ffi::{call_list_raw, call_raw, check_raw};
+use crate::ffi::{call_list_raw, call_operator_list_raw, call_operator_raw, call_raw, check_raw};
 use crate::image::LONGEST_IMAGE;
 use crate::refusal::{INCONSISTENT, SHORT_OUTPUT};
 use crate::{Refusal, Rule};
@@ -34,6 +34,12 @@ pub struct AppliedList {
     pub length: usize,
 }
 
+/// A host call for one ticket: image, ticket and output, and its number as it comes.
+type RawCall = fn(&[u8], &[u8], &mut [u8]) -> u64;
+
+/// A host call for a list: image, tickets, answers and output, and its number as it comes.
+type RawListCall = fn(&[u8], &[u8], &mut [u8], &mut [u8]) -> u64;
+
 /// Applies a ticket of any length to an image and writes the new image to the output. The whole image is read
 /// and checked first.
 ///
@@ -60,8 +66,38 @@ pub struct AppliedList {
 /// inconsistent image the image is read once more, for the length of a short output the call is made once
 /// more. An output of [`LONGEST_IMAGE`] bytes is never too short.
 pub fn apply_ticket(image: &[u8], ticket: &[u8], output: &mut [u8]) -> Result<Applied, Refusal> {
-    let [number, added, removed, length] = parts_of(call_raw(image, ticket, output));
-    let again = |long_enough: &mut [u8]| call_raw(image, ticket, long_enough);
+    applied_by(call_raw, image, ticket, output)
+}
+
+/// Applies an operator's ticket of any length to an image and writes the new image to the output. With a kind
+/// that is for operators ([`Kind::is_for_operators`](crate::Kind::is_for_operators)) it does what
+/// [`apply_ticket`] does.
+///
+/// ```
+/// use vimelosa_host::{apply_operator_ticket, Graph, Refusal};
+///
+/// let (fresh, mut output) = (Graph::fresh(), [0; 72]);
+/// let applied = apply_operator_ticket(fresh.image(), &[1, 3, 4, 0, 0], &mut output)?;
+/// assert_eq!((applied.change.added, applied.length), (2, 72));
+///
+/// // A class is not for operators. This comes before 8, with which Resource is guarded.
+/// let refused = apply_operator_ticket(fresh.image(), &[2, 1, 0, 0, 0], &mut output);
+/// assert_eq!(refused, Err(Refusal::NotForOperators));
+/// # Ok::<(), Refusal>(())
+/// ```
+///
+/// # Errors
+///
+/// Those of [`check_image`] for the image, 4 to 7, 17, 8, 9, 16, 10, 11 for the ticket (those of
+/// [`apply_ticket`], with [`Refusal::NotForOperators`] after [`Refusal::BadIds`]), [`Refusal::ShortOutput`]
+/// for the output, in this order and at the cost that [`apply_ticket`] tells. The output is then as it was.
+pub fn apply_operator_ticket(image: &[u8], ticket: &[u8], output: &mut [u8]) -> Result<Applied, Refusal> {
+    applied_by(call_operator_raw, image, ticket, output)
+}
+
+fn applied_by(call: RawCall, image: &[u8], ticket: &[u8], output: &mut [u8]) -> Result<Applied, Refusal> {
+    let [number, added, removed, length] = parts_of(call(image, ticket, output));
+    let again = |long_enough: &mut [u8]| call(image, ticket, long_enough);
     outcome(number, || broken_rule(image), || needed_by(again))?;
     Ok(Applied { change: Change { added, removed }, length: usize::from(length) })
 }
@@ -98,10 +134,51 @@ pub fn apply_list(
     answers: &mut [u8],
     output: &mut [u8],
 ) -> Result<AppliedList, Refusal> {
-    let [number, accepted, refused, length] = parts_of(call_list_raw(image, tickets, answers, output));
+    listed_by(call_list_raw, image, tickets, answers, output)
+}
+
+/// Applies operators' tickets of five bytes each to an image, one after the other, and writes the image that
+/// they leave to the output. Each ticket's number goes to its answer byte: 0, or its refusal, 4 to 11, 16 or
+/// 17; all else is as [`apply_list`] has it. Accepted or not, the tickets leave every fact of a kind that is
+/// not for operators ([`Kind::is_for_operators`](crate::Kind::is_for_operators)) and add none.
+///
+/// ```
+/// use vimelosa_host::{apply_operator_list, Graph, Refusal, LONGEST_IMAGE};
+///
+/// let fresh = Graph::fresh();
+/// let (mut answers, mut output) = ([0; 3], [0; LONGEST_IMAGE]);
+/// let tickets = [1, 3, 4, 0, 0, 1, 1, 2, 0, 0, 1, 9, 4, 2, 0];
+/// let applied = apply_operator_list(fresh.image(), &tickets, &mut answers, &mut output)?;
+/// assert_eq!((applied.accepted, applied.refused, applied.length), (1, 2, 72));
+///
+/// // The class is not made, and so the member's is unknown.
+/// assert_eq!(answers, [0, 17, 16]);
+/// # Ok::<(), Refusal>(())
+/// ```
+///
+/// # Errors
+///
+/// Those of [`apply_list`], in its order. The answers and the output are then as they were.
+pub fn apply_operator_list(
+    image: &[u8],
+    tickets: &[u8],
+    answers: &mut [u8],
+    output: &mut [u8],
+) -> Result<AppliedList, Refusal> {
+    listed_by(call_operator_list_raw, image, tickets, answers, output)
+}
+
+fn listed_by(
+    call: RawListCall,
+    image: &[u8],
+    tickets: &[u8],
+    answers: &mut [u8],
+    output: &mut [u8],
+) -> Result<AppliedList, Refusal> {
+    let [number, accepted, refused, length] = parts_of(call(image, tickets, answers, output));
     let again = |long_enough: &mut [u8]| {
         let mut aside = vec![0; answers.len()];
-        call_list_raw(image, tickets, &mut aside, long_enough)
+        call(image, tickets, &mut aside, long_enough)
     };
     outcome(number, || broken_rule(image), || needed_by(again))?;
     Ok(AppliedList { accepted, refused, length: usize::from(length) })

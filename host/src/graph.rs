@@ -1,10 +1,13 @@
 //! A graph, held as its image.
 
-use crate::call::{apply_list, apply_ticket, check_image, Change};
+use crate::call::{apply_list, apply_ticket, check_image, Applied, Change};
 use crate::image::{fresh_image, has_all_entries, rows_of, LONGEST_IMAGE};
 use crate::rows::Rows;
 use crate::{AllFacts, Fact, Facts, Kind, Refusal, Ticket};
 use std::fmt;
+
+/// A call for one ticket: image, ticket and output.
+type TicketCall = fn(&[u8], &[u8], &mut [u8]) -> Result<Applied, Refusal>;
 
 /// A consistent graph. Its image is what a backup keeps. A graph has one image, so two graphs are equal if
 /// their images are.
@@ -80,8 +83,12 @@ impl Graph {
     /// 5 to 9, 16, 10, 11, in this order: [`Refusal::BadOperation`] to [`Refusal::UnknownProperty`],
     /// [`Refusal::UnknownClass`], [`Refusal::Clashing`], [`Refusal::TooMany`]. The graph is then as it was.
     pub fn apply(&mut self, ticket: Ticket) -> Result<Change, Refusal> {
+        self.apply_by(apply_ticket, ticket)
+    }
+
+    pub(crate) fn apply_by(&mut self, call: TicketCall, ticket: Ticket) -> Result<Change, Refusal> {
         let mut output = [0; LONGEST_IMAGE];
-        let applied = apply_ticket(&self.image, &ticket.bytes(), &mut output)?;
+        let applied = call(&self.image, &ticket.bytes(), &mut output)?;
         self.replace_image(&output[..applied.length]);
         Ok(applied.change)
     }

@@ -1,5 +1,5 @@
 //! The Rust host of Vimelosa's equipment graph: one RDF/S graph, kept as an image and changed by tickets. The
-//! work is done by a proved library behind five C functions; this crate gives it the types of the field.
+//! work is done by a proved library behind seven C functions; this crate gives it the types of the field.
 //!
 //! - [`Graph`] holds an image. [`Graph::apply`] runs one [`Ticket`] and answers the [`Change`] or the
 //!   [`Refusal`], [`Graph::apply_all`] runs a list of them.
@@ -8,11 +8,14 @@
 //!   [`Graph::diff`] compares two graphs.
 //! - [`Ticket::insert_exclusive`] makes a property exclusive: from then on the graph refuses a second
 //!   individual with the same value for it.
+//! - [`Graph::apply_as_operator`] and [`Graph::apply_all_as_operator`] run the tickets of shift operators,
+//!   who enter devices and readings: whatever they send, the class tree and the properties stay.
 //! - [`Names`] keeps names for ids in a file, and writes and reads facts and tickets with them.
 //! - [`Graph::to_triples`] and [`Graph::from_triples`] write and read a graph as a text of N-Triples.
-//! - [`apply_ticket`], [`apply_list`], [`check_image`], [`write_triples`] and [`read_triples`] are the calls
-//!   over bytes that the caller lends; [`call_raw`], [`call_list_raw`], [`check_raw`], [`write_triples_raw`]
-//!   and [`read_triples_raw`] give their numbers as they come.
+//! - [`apply_ticket`], [`apply_list`], [`apply_operator_ticket`], [`apply_operator_list`], [`check_image`],
+//!   [`write_triples`] and [`read_triples`] are the calls over bytes that the caller lends; [`call_raw`],
+//!   [`call_list_raw`], [`call_operator_raw`], [`call_operator_list_raw`], [`check_raw`],
+//!   [`write_triples_raw`] and [`read_triples_raw`] give their numbers as they come.
 //!
 //! The proved library has no state and takes no memory but the stack, of which 64 KB are enough for its
 //! deepest calls known. Calls may run on any threads at once, and none panics.
@@ -59,6 +62,7 @@ mod lookups;
 mod name_error;
 mod names;
 mod names_text;
+mod operator;
 mod parse;
 mod range;
 mod refusal;
@@ -69,11 +73,13 @@ mod ticket;
 mod triples;
 mod words;
 
-pub use call::{apply_list, apply_ticket, check_image, Applied, AppliedList, Change};
+pub use call::{apply_list, apply_operator_list, apply_operator_ticket, apply_ticket, check_image};
+pub use call::{Applied, AppliedList, Change};
 pub use diff::Diff;
 pub use fact::{Fact, RESOURCE};
 pub use facts::{AllFacts, Facts};
-pub use ffi::{call_list_raw, call_raw, check_raw, read_triples_raw, write_triples_raw};
+pub use ffi::{call_list_raw, call_operator_list_raw, call_operator_raw, call_raw};
+pub use ffi::{check_raw, read_triples_raw, write_triples_raw};
 pub use graph::Graph;
 pub use image::{LONGEST_IMAGE, MOST_FACTS};
 pub use kind::Kind;

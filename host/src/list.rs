@@ -1,6 +1,6 @@
 //! Lists of tickets on a graph.
 
-use crate::call::{apply_list, Change};
+use crate::call::{apply_list, AppliedList, Change};
 use crate::image::LONGEST_IMAGE;
 use crate::{Graph, Refusal, Ticket};
 use std::error::Error;
@@ -8,6 +8,9 @@ use std::fmt;
 
 /// A list call takes at most so many tickets: it counts them in 16 bits.
 const MOST_TICKETS: usize = u16::MAX as usize;
+
+/// A call for a list: image, tickets, answers and output.
+type ListCall = fn(&[u8], &[u8], &mut [u8], &mut [u8]) -> Result<AppliedList, Refusal>;
 
 /// The first ticket of a list that was refused.
 #[derive(Clone, Copy, PartialEq, Eq, Hash, Debug)]
@@ -46,11 +49,7 @@ impl Graph {
     /// ```
     #[must_use = "which tickets were refused is told here alone"]
     pub fn apply_all(&mut self, tickets: &[Ticket]) -> Vec<Result<(), Refusal>> {
-        let mut outcomes = Vec::with_capacity(tickets.len());
-        for part in tickets.chunks(MOST_TICKETS) {
-            outcomes.extend(self.apply_part(part).into_iter().map(outcome_of));
-        }
-        outcomes
+        self.apply_all_by(apply_list, tickets)
     }
 
     /// Runs all tickets if none of them is refused, and answers how the graph after the last differs from the
@@ -73,8 +72,24 @@ impl Graph {
     ///
     /// The first ticket that is refused; the graph is then as it was.
     pub fn apply_all_or_none(&mut self, tickets: &[Ticket]) -> Result<Change, RefusedTicket> {
+        self.apply_all_or_none_by(apply_list, tickets)
+    }
+
+    pub(crate) fn apply_all_by(&mut self, call: ListCall, tickets: &[Ticket]) -> Vec<Result<(), Refusal>> {
+        let mut outcomes = Vec::with_capacity(tickets.len());
+        for part in tickets.chunks(MOST_TICKETS) {
+            outcomes.extend(self.apply_part(call, part).into_iter().map(outcome_of));
+        }
+        outcomes
+    }
+
+    pub(crate) fn apply_all_or_none_by(
+        &mut self,
+        call: ListCall,
+        tickets: &[Ticket],
+    ) -> Result<Change, RefusedTicket> {
         let mut new = self.clone();
-        for (place, outcome) in new.apply_all(tickets).into_iter().enumerate() {
+        for (place, outcome) in new.apply_all_by(call, tickets).into_iter().enumerate() {
             outcome.map_err(|refusal| RefusedTicket { place, refusal })?;
         }
         let diff = self.diff(&new);
@@ -84,10 +99,10 @@ impl Graph {
     }
 
     /// Runs tickets by one call; the number of each.
-    fn apply_part(&mut self, tickets: &[Ticket]) -> Vec<u8> {
+    fn apply_part(&mut self, call: ListCall, tickets: &[Ticket]) -> Vec<u8> {
         let bytes: Vec<u8> = tickets.iter().flat_map(|ticket| ticket.bytes()).collect();
         let (mut answers, mut output) = (vec![0; tickets.len()], [0; LONGEST_IMAGE]);
-        match apply_list(self.image(), &bytes, &mut answers, &mut output) {
+        match call(self.image(), &bytes, &mut answers, &mut output) {
             Ok(applied) => self.replace_image(&output[..applied.length]),
             Err(refusal) => unreachable!("no list on a consistent graph is refused, yet: {refusal}"),
         }

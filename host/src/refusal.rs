@@ -7,7 +7,7 @@ use std::error::Error;
 use std::fmt;
 
 /// Why a call refused, each with document 01's number and words, from 15 on with document 02's. A refusal
-/// leaves all lent memory as it was. More will follow, 17 to 20, so a `match` on it has an arm for the
+/// leaves all lent memory as it was. More will follow, 18 to 20, so a `match` on it has an arm for the
 /// others.
 #[derive(Clone, Copy, PartialEq, Eq, Hash, Debug)]
 #[non_exhaustive]
@@ -52,6 +52,9 @@ pub enum Refusal {
     OutsideProfile,
     /// 16: class unknown: inserting CI with b not a class of the table. It stands between 9 and 10.
     UnknownClass,
+    /// 17: kind not for operators, who have 3, 4, 9 and 10. The operators' calls alone give it; there it
+    /// follows 7.
+    NotForOperators,
 }
 
 /// The number of [`Refusal::Inconsistent`], whose rule it does not tell.
@@ -61,7 +64,7 @@ pub(crate) const INCONSISTENT: u16 = 3;
 pub(crate) const SHORT_OUTPUT: u16 = 13;
 
 /// The others, which their number tells.
-const TOLD_BY_NUMBER: [Refusal; 14] = [
+const TOLD_BY_NUMBER: [Refusal; 15] = [
     Refusal::BadSize,
     Refusal::BadLayout,
     Refusal::BadLength,
@@ -76,6 +79,7 @@ const TOLD_BY_NUMBER: [Refusal; 14] = [
     Refusal::FewAnswers,
     Refusal::OutsideProfile,
     Refusal::UnknownClass,
+    Refusal::NotForOperators,
 ];
 
 impl Refusal {
@@ -108,6 +112,7 @@ impl Refusal {
             Refusal::FewAnswers => 14,
             Refusal::OutsideProfile => 15,
             Refusal::UnknownClass => 16,
+            Refusal::NotForOperators => 17,
         }
     }
 
@@ -135,6 +140,7 @@ impl Refusal {
             Refusal::FewAnswers => "There are fewer answer bytes than tickets, or more than 65,535 tickets.",
             Refusal::OutsideProfile => "A line of the text is outside the profile.",
             Refusal::UnknownClass => "The ticket names a class that the graph does not have.",
+            Refusal::NotForOperators => "The ticket names a kind that is not for operators.",
         }
     }
 }

@@ -1,5 +1,5 @@
-//! The safe calls: the vectors and random tickets through `Graph`, ticket by ticket and as lists; its facts
-//! beside those of the independent implementation.
+//! The safe calls, plain and operators': the vectors and random tickets through `Graph`, ticket by ticket and
+//! as lists; its facts beside those of the independent implementation.
 
 mod generator;
 mod independent;
@@ -12,7 +12,7 @@ use independent::fact::value;
 use independent::image::{facts_in, image_of};
 use independent::table::fresh_graph;
 use std::thread;
-use vector_files::{class_cases, database, paper_cases, suite_cases};
+use vector_files::{class_cases, database, operator_cases, paper_cases, suite_cases, OperatorCase};
 use vimelosa_host::{apply_list, check_image, write_triples, LONGEST_IMAGE, MOST_FACTS};
 use vimelosa_host::{Change, Fact, Graph, Kind, Range, Refusal, RefusedTicket, Ticket};
 
@@ -24,13 +24,36 @@ fn tickets_of(list: &[u8]) -> Vec<Ticket> {
     list.chunks(5).map(ticket_of).collect()
 }
 
+/// What is answered for each ticket of a list.
+type Answers = Vec<Result<(), Refusal>>;
+
+/// The calls for one ticket, for all of a list, and for all or none.
+struct Calls {
+    one: fn(&mut Graph, Ticket) -> Result<Change, Refusal>,
+    all: fn(&mut Graph, &[Ticket]) -> Answers,
+    all_or_none: fn(&mut Graph, &[Ticket]) -> Result<Change, RefusedTicket>,
+}
+
+const PLAIN: Calls =
+    Calls { one: Graph::apply, all: Graph::apply_all, all_or_none: Graph::apply_all_or_none };
+
+const OPERATOR: Calls = Calls {
+    one: Graph::apply_as_operator,
+    all: Graph::apply_all_as_operator,
+    all_or_none: Graph::apply_all_or_none_as_operator,
+};
+
+fn run(graph: &mut Graph, list: &[u8]) -> Vec<[usize; 3]> {
+    run_by(&PLAIN, graph, list)
+}
+
 /// Runs a list on a graph ticket by ticket, and at once on its copy, which says the same; the answers as
 /// number, added and removed.
-fn run(graph: &mut Graph, list: &[u8]) -> Vec<[usize; 3]> {
+fn run_by(calls: &Calls, graph: &mut Graph, list: &[u8]) -> Vec<[usize; 3]> {
     let (mut copy, tickets) = (graph.clone(), tickets_of(list));
-    let outcomes: Vec<_> = tickets.iter().map(|ticket| graph.apply(*ticket)).collect();
+    let outcomes: Vec<_> = tickets.iter().map(|ticket| (calls.one)(graph, *ticket)).collect();
     let at_once: Vec<_> = outcomes.iter().map(|outcome| outcome.map(|_| ())).collect();
-    assert_eq!(copy.apply_all(&tickets), at_once);
+    assert_eq!((calls.all)(&mut copy, &tickets), at_once);
     assert_eq!(copy, *graph);
     let answer = |outcome: Result<Change, Refusal>| match outcome {
         Ok(Change { added, removed }) => [0, added.into(), removed.into()],
@@ -137,6 +160,20 @@ fn ticket_cases_through_the_graph() {
     }
 }
 
+/// The same of operators' tickets; a ticket short of a record is none for a graph.
+#[test]
+fn operator_cases_through_the_graph() {
+    let cases = operator_cases().into_iter().filter(|whole| whole.case.words == MOST_FACTS);
+    for OperatorCase { before, case } in cases {
+        let mut graph = Graph::fresh();
+        graph.apply_all_or_none(&tickets_of(&before)).unwrap();
+        let whole = case.list.len() / 5;
+        let answers = run_by(&OPERATOR, &mut graph, &case.list[..5 * whole]);
+        assert_eq!(answers, case.answers[..whole], "{}", case.name);
+        assert_eq!(words(&graph), case.left, "{}", case.name);
+    }
+}
+
 #[test]
 fn facts_of_a_graph_are_those_of_its_image() {
     let mut random = Random::for_test("facts_of_a_graph");
@@ -160,20 +197,23 @@ fn lists_leave_what_their_tickets_leave_one_by_one() {
     let mut random = Random::for_test("lists_leave");
     for round in 0..rounds(40) {
         let mut graph = Graph::fresh();
-        for length in [0, 1, 60] {
-            run(&mut graph, &records(&mut random, &ALL_IDS[round % 4], length));
+        for (calls, length) in [(&PLAIN, 0), (&PLAIN, 1), (&PLAIN, 60), (&OPERATOR, 0), (&OPERATOR, 60)] {
+            run_by(calls, &mut graph, &records(&mut random, &ALL_IDS[round % 4], length));
         }
     }
 }
 
-/// One call counts 65,535 tickets, so this list is cut.
+/// One call counts 65,535 tickets, so this list is cut. Operators run it on what it leaves.
 #[test]
 fn a_list_of_70_000_tickets_is_run_whole() {
     let mut random = Random::for_test("a_list_of_70_000");
     let list: Vec<u8> = long_list(&mut random, 70_000).concat();
-    let answers = run(&mut Graph::fresh(), &list);
-    assert_eq!(answers.len(), 70_000);
-    assert!(answers[65_535..].iter().any(|answer| answer[1] > 0));
+    let mut graph = Graph::fresh();
+    for calls in [&PLAIN, &OPERATOR] {
+        let answers = run_by(calls, &mut graph, &list);
+        assert_eq!(answers.len(), 70_000);
+        assert!(answers[65_535..].iter().any(|answer| answer[1] > 0));
+    }
 }
 
 /// The library has no state, so calls on one graph by eight threads at once leave what one call leaves.
@@ -199,6 +239,12 @@ fn threads_run_lists_at_once() {
 
 #[test]
 fn lists_are_run_whole_or_not_at_all() {
+    for calls in [&PLAIN, &OPERATOR] {
+        all_or_none(calls);
+    }
+}
+
+fn all_or_none(calls: &Calls) {
     let mut random = Random::for_test("lists_are_run_whole");
     let mut whole = 0;
     for round in 0..rounds(200) {
@@ -207,16 +253,17 @@ fn lists_are_run_whole_or_not_at_all() {
         let _ = graph.apply_all(&tickets_of(&records(&mut random, ids, 30)));
         let (before, mut after) = (graph.clone(), graph.clone());
         let tickets = tickets_of(&records(&mut random, ids, round % 5));
-        let outcomes = after.apply_all(&tickets);
+        let outcomes = (calls.all)(&mut after, &tickets);
         match outcomes.iter().position(Result::is_err) {
             Some(place) => {
                 let refusal = outcomes[place].unwrap_err();
-                assert_eq!(graph.apply_all_or_none(&tickets), Err(RefusedTicket { place, refusal }));
+                let refused = (calls.all_or_none)(&mut graph, &tickets);
+                assert_eq!(refused, Err(RefusedTicket { place, refusal }));
                 assert_eq!(graph, before);
             }
             None => {
                 let count = |one: &Graph, other: &Graph| one.all_facts().filter(|f| !other.has(*f)).count();
-                let change = graph.apply_all_or_none(&tickets).unwrap();
+                let change = (calls.all_or_none)(&mut graph, &tickets).unwrap();
                 assert_eq!(usize::from(change.added), count(&after, &before));
                 assert_eq!(usize::from(change.removed), count(&before, &after));
                 assert_eq!(graph, after);

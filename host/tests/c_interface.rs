@@ -34,6 +34,18 @@ exclusive: answer 0, accepted 3, refused 2, length 84, rest as lent 1
 answers: 9 0 0 0 10
 check: answer 0, rule place 0, above 0
 check of an exclusive individual: answer 3, rule place 29, above 0
+operator inserts individual 4: answer 0, added 2, removed 0, length 72, rest as lent 1
+a class is not for operators: 1
+operator inserts class 2: answer 17, added 0, removed 0, length 0, rest as lent 1
+operator's class, no output: answer 17, added 0, removed 0, length 0, rest as lent 1
+operator's short output: answer 13, added 0, removed 0, length 0, rest as lent 1
+operator, no image: answer 12, added 0, removed 0, length 0, rest as lent 1
+operators' list, few answers: answer 14, accepted 0, refused 0, length 0, rest as lent 1
+operators' list, short output: answer 13, accepted 0, refused 0, length 0, rest as lent 1
+operators' list: answer 0, accepted 1, refused 3, length 72, rest as lent 1
+answers: 0 17 16 8
+bodies: 0 4 4 0
+operators' list, all empty: answer 12, accepted 0, refused 0, length 0, rest as lent 1
 check of an old image: answer 0, rule place 0, above 0
 no tickets on an old image: answer 0, accepted 0, refused 0, length 69, rest as lent 1
 the image is the new one: 1
@@ -236,7 +248,7 @@ fn refusals_of_document() -> Vec<(String, u16)> {
 fn the_refusals_of_the_header_are_those_of_the_document() {
     let refusals = numbers_of_header("refusal");
     let numbers: Vec<u16> = refusals.iter().map(|(_, number)| *number).collect();
-    assert_eq!(numbers, (1..=16).collect::<Vec<u16>>());
+    assert_eq!(numbers, (1..=17).collect::<Vec<u16>>());
     assert_eq!(refusals, refusals_of_document());
 }
 

@@ -7,9 +7,8 @@ use generator::graphs::{broken, image};
 use generator::tickets::{records, ALL_IDS};
 use generator::{rounds, Random};
 use independent::rules::{first_broken, place_of};
-use vimelosa_host::{
-    apply_list, apply_ticket, check_image, Change, Graph, Range, Refusal, Rule, Ticket, LONGEST_IMAGE,
-};
+use vimelosa_host::{apply_list, apply_operator_list, apply_operator_ticket, apply_ticket, check_image};
+use vimelosa_host::{Change, Graph, Range, Refusal, Rule, Ticket, LONGEST_IMAGE};
 
 #[test]
 fn a_short_output_is_told_how_many_bytes_are_needed() {
@@ -66,6 +65,9 @@ fn an_inconsistent_image_is_told_its_rule() {
         let nothing_new = Ticket::insert_class(0).bytes();
         assert_eq!(apply_ticket(&image, &nothing_new, &mut output).map(|_| ()), expected);
         assert_eq!(apply_list(&image, &[], &mut [], &mut output).map(|_| ()), expected);
+        let no_class = Ticket::delete_literal(0).bytes();
+        assert_eq!(apply_operator_ticket(&image, &no_class, &mut output).map(|_| ()), expected);
+        assert_eq!(apply_operator_list(&image, &[], &mut [], &mut output).map(|_| ()), expected);
         told.extend(rule);
     }
     told.sort_unstable();
@@ -108,6 +110,7 @@ fn tickets_that_name_something_by_id_1_are_refused() {
     ];
     for ticket in tickets {
         assert_eq!(Graph::fresh().apply(ticket), Err(Refusal::BadIds), "{ticket:?}");
+        assert_eq!(Graph::fresh().apply_as_operator(ticket), Err(Refusal::BadIds), "{ticket:?}");
     }
 }
 

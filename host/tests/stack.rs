@@ -4,7 +4,8 @@
 //! chain above it, where each step goes to the nearest id first.
 
 use std::thread;
-use vimelosa_host::{call_list_raw, call_raw, check_raw, read_triples_raw, write_triples_raw};
+use vimelosa_host::{call_list_raw, call_operator_list_raw, call_operator_raw, call_raw};
+use vimelosa_host::{check_raw, read_triples_raw, write_triples_raw};
 use vimelosa_host::{Graph, Range, Ticket, LONGEST_IMAGE, LONGEST_TEXT, RESOURCE};
 
 /// The stack that a thread is to have. The deepest call known takes three quarters of it.
@@ -71,6 +72,12 @@ fn property_chains(chains: &Chains) -> Graph {
     graph
 }
 
+/// The calls for one ticket and for a list.
+type Calls = (fn(&[u8], &[u8], &mut [u8]) -> u64, fn(&[u8], &[u8], &mut [u8], &mut [u8]) -> u64);
+
+const PLAIN: Calls = (call_raw, call_list_raw);
+const OPERATOR: Calls = (call_operator_raw, call_operator_list_raw);
+
 /// What a call answers, and the bytes that it leaves in what it was lent to write to.
 type Left = (u64, Vec<u8>, Vec<u8>);
 
@@ -82,31 +89,36 @@ fn on_small_stack(call: impl Fn() -> Left + Send + 'static) -> Left {
     left
 }
 
-/// The ticket by itself, and twice in a list, with an output that is as long as any image and with one that
-/// is a byte shorter; and the check.
+/// The ticket by the plain calls, and the check.
 fn call_on_small_stack(graph: &Graph, ticket: Ticket, expected: u64) {
-    call_singly(graph.image().to_vec(), ticket, expected);
-    for output in [LONGEST_IMAGE, LONGEST_IMAGE - 1] {
-        call_with_list(graph.image().to_vec(), ticket, output, expected);
-    }
+    run_by(PLAIN, graph, ticket, expected);
     let image = graph.image().to_vec();
     let (answer, ..) = on_small_stack(move || (check_raw(&image), Vec::new(), Vec::new()));
     assert_eq!(answer, 0);
 }
 
-fn call_singly(image: Vec<u8>, ticket: Ticket, expected: u64) {
+/// The ticket by itself, and twice in a list, with an output that is as long as any image and with one that
+/// is a byte shorter.
+fn run_by(calls: Calls, graph: &Graph, ticket: Ticket, expected: u64) {
+    call_singly(calls, graph.image().to_vec(), ticket, expected);
+    for output in [LONGEST_IMAGE, LONGEST_IMAGE - 1] {
+        call_with_list(calls, graph.image().to_vec(), ticket, output, expected);
+    }
+}
+
+fn call_singly((call, _): Calls, image: Vec<u8>, ticket: Ticket, expected: u64) {
     let (answer, ..) = on_small_stack(move || {
         let mut output = vec![7; LONGEST_IMAGE];
-        (call_raw(&image, &ticket.bytes(), &mut output), output, Vec::new())
+        (call(&image, &ticket.bytes(), &mut output), output, Vec::new())
     });
     assert_eq!(answer & 0xffff, expected);
 }
 
-fn call_with_list(image: Vec<u8>, ticket: Ticket, output: usize, expected: u64) {
+fn call_with_list((_, call): Calls, image: Vec<u8>, ticket: Ticket, output: usize, expected: u64) {
     let list = ticket.bytes().repeat(2);
     let (answer, numbers, _) = on_small_stack(move || {
         let (mut answers, mut output) = (vec![7; 3], vec![7; output]);
-        let answer = call_list_raw(&image, &list, &mut answers, &mut output);
+        let answer = call(&image, &list, &mut answers, &mut output);
         (answer, answers, output)
     });
     assert_eq!(answer & 0xffff, 0);
@@ -149,6 +161,25 @@ fn class_chains_joined_by_a_property_link() {
     let ends = [(p, low), (q, high)].map(|(property, domain)| open_property(property, domain));
     run(&mut graph, [member].into_iter().chain(ends));
     call_on_small_stack(&graph, Ticket::insert_subproperty(p, q), TOO_MANY);
+}
+
+/// A value brings its individual into the domain of its property, and so into every class of the chain above;
+/// and up a chain of properties. No ticket of an operator is known to nest deeper.
+#[test]
+fn chains_that_a_value_climbs() {
+    for (length, expected) in [(61, ACCEPTED), (62, TOO_MANY)] {
+        let classes = Chains::of_lengths(1, length);
+        let mut graph = class_chains(&classes);
+        run(&mut graph, [open_property(150, classes.upper[0]), Ticket::insert_exclusive(150)]);
+        for calls in [PLAIN, OPERATOR] {
+            run_by(calls, &graph, Ticket::insert_value(200, 201, 150), expected);
+        }
+    }
+    let properties = Chains::of_lengths(1, 60);
+    let value = Ticket::insert_value(2, 4, properties.upper[0]);
+    for calls in [PLAIN, OPERATOR] {
+        run_by(calls, &property_chains(&properties), value, ACCEPTED);
+    }
 }
 
 /// An output that is long enough begins with what is expected; one that is too short is refused with 13 and

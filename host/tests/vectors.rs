@@ -1,19 +1,25 @@
 //! The vectors on the independent implementation: the W3C suites, the worked examples of the papers, members
-//! and their classes, exclusive properties, tables and images, and texts of triples.
+//! and their classes, exclusive properties, operators' tickets, tables and images, and texts of triples. The
+//! operators' tickets are run by the proved calls too.
 
+mod generator;
 mod independent;
 mod vector_files;
 
-use independent::image::{body, read, write};
+use generator::calls::{run_singly, HostCall};
+use independent::host::{host_operator_call, host_operator_list_call};
+use independent::image::{body, facts_in, read, write};
+use independent::operator::{apply_operator, apply_operator_list};
 use independent::programs::{print_answers, run_tickets};
 use independent::rules::{first_broken, name_of};
 use independent::table::{check, facts_of, fresh_table, MOST_WORDS};
-use independent::ticket::apply;
+use independent::ticket::{apply, Answer};
 use independent::triples::{read_triples, write_triples};
 use vector_files::{
-    class_cases, database, exclusive_cases, image_cases, ntriples_files, paper_cases, suite_cases,
-    triples_cases, ImageCase, PaperCase, TicketCase, TriplesCase,
+    class_cases, database, exclusive_cases, image_cases, ntriples_files, operator_cases, paper_cases,
+    suite_cases, triples_cases, ImageCase, OperatorCase, PaperCase, TicketCase, TriplesCase,
 };
+use vimelosa_host::{call_operator_list_raw, call_operator_raw, Graph, LONGEST_IMAGE};
 
 #[test]
 fn suites_have_57_cases_papers_72_and_classes_49() {
@@ -23,6 +29,11 @@ fn suites_have_57_cases_papers_72_and_classes_49() {
 #[test]
 fn exclusive_properties_have_84_cases_and_images_165() {
     assert_eq!((exclusive_cases().len(), image_cases().len()), (84, 165));
+}
+
+#[test]
+fn operators_have_64_cases() {
+    assert_eq!(operator_cases().len(), 64);
 }
 
 #[test]
@@ -114,16 +125,78 @@ fn paper_cases_give_their_answers() {
     }
 }
 
+/// The table gives the case's answers, ticket by ticket, and has its words at the end.
+fn run_case(case: &TicketCase, mut found: Vec<u32>, call: fn(&mut [u32], &[u8]) -> Answer) {
+    let answers = case.list.chunks(5).map(|ticket| call(&mut found, ticket));
+    let answers: Vec<[usize; 3]> =
+        answers.map(|answer| [answer.number.into(), answer.added, answer.removed]).collect();
+    assert_eq!(answers, case.answers, "{}", case.name);
+    assert_eq!(found, table(&case.left, case.words), "{}", case.name);
+}
+
+/// The answer numbers of a case's tickets.
+fn numbers_of(case: &TicketCase) -> Vec<u8> {
+    case.answers.iter().map(|answer| answer[0] as u8).collect()
+}
+
 #[test]
 fn ticket_cases_give_their_answers_and_leave_their_words() {
     for case in class_cases().into_iter().chain(exclusive_cases()) {
+        run_case(&case, fresh_table(case.words), apply);
+    }
+}
+
+/// By single calls, and at once.
+#[test]
+fn operator_cases_give_their_answers_and_leave_their_words() {
+    for OperatorCase { before, case } in operator_cases() {
         let mut found = fresh_table(case.words);
-        let answers = case.list.chunks(5).map(|ticket| apply(&mut found, ticket));
-        let answers: Vec<[usize; 3]> =
-            answers.map(|answer| [answer.number.into(), answer.added, answer.removed]).collect();
-        assert_eq!(answers, case.answers, "{}", case.name);
+        let accepted = before.chunks(5).all(|ticket| apply(&mut found, ticket).number == 0);
+        assert!(accepted, "{}", case.name);
+        run_case(&case, found.clone(), apply_operator);
+        let mut answers = vec![0xff; case.answers.len() + 1];
+        assert_eq!(apply_operator_list(&mut found, &case.list, &mut answers).number, 0, "{}", case.name);
+        assert_eq!(answers, [numbers_of(&case), vec![0xff]].concat(), "{}", case.name);
         assert_eq!(found, table(&case.left, case.words), "{}", case.name);
     }
+}
+
+/// Those on 2,048 words, as many as the calls across the C interface have, by the proved calls and by the
+/// independent ones.
+#[test]
+fn operator_cases_across_the_c_interface() {
+    for OperatorCase { before, case } in operator_cases() {
+        if case.words != MOST_WORDS {
+            continue;
+        }
+        let mut graph = Graph::fresh();
+        let tickets: Vec<_> = before.chunks(5).map(|ticket| ticket.try_into().unwrap()).collect();
+        graph.apply_all_or_none(&tickets).unwrap();
+        for call in [call_operator_raw as HostCall, host_operator_call] {
+            let (numbers, left) = run_singly(call, graph.image(), &case.list);
+            let answers: Vec<[usize; 3]> = numbers.into_iter().map(first_parts).collect();
+            assert_eq!(answers, case.answers, "{}", case.name);
+            assert_eq!(words_in(&left), case.left, "{}", case.name);
+        }
+        for call in [call_operator_list_raw, host_operator_list_call] {
+            let (mut answers, mut output) = (vec![0xff; case.answers.len()], vec![0xff; LONGEST_IMAGE]);
+            let number = call(graph.image(), &case.list, &mut answers, &mut output);
+            let accepted = answers.iter().filter(|number| **number == 0).count();
+            assert_eq!(first_parts(number), [0, accepted, answers.len() - accepted], "{}", case.name);
+            assert_eq!(answers, numbers_of(&case), "{}", case.name);
+            assert_eq!(words_in(&output[..(number >> 48) as usize]), case.left, "{}", case.name);
+        }
+    }
+}
+
+/// The first three of the four parts of a call's number.
+fn first_parts(number: u64) -> [usize; 3] {
+    [0, 16, 32].map(|bits| usize::from((number >> bits) as u16))
+}
+
+/// The words of the facts in an image.
+fn words_in(image: &[u8]) -> Vec<u32> {
+    facts_in(image).expect("the image is good").facts().map(|fact| fact.word()).collect()
 }
 
 #[test]

@@ -6,6 +6,7 @@ use crate::failure::{Answer, Failure, DONE, REFUSED};
 use crate::files::{Image, NamesFile};
 use crate::progress::Progress;
 use crate::replace::Replacement;
+use crate::sender::Sender;
 use crate::stat::used_ids;
 use crate::text::{count, filled, grouped, named, WIDTH};
 use crate::tickets::{understand, Source, Understood};
@@ -22,11 +23,13 @@ pub fn run(matches: &ArgMatches) -> Result<Answer, Failure> {
     let source = Source::read(matches)?;
     let understood = understand(&source, &image.graph, &names.names)?;
 
-    let ran = run_list(&image.graph, &understood.tickets, matches.get_flag("all-or-nothing"));
+    let sender = Sender::of(matches);
+    let is_all_or_nothing = matches.get_flag("all-or-nothing");
+    let ran = run_list(sender, &image.graph, &understood.tickets, is_all_or_nothing);
     let kept = kept_ids(&understood, &ran.graph);
     save(&image, &names, &understood.names, &kept, &ran.graph)?;
     let status = if ran.refused.is_empty() { DONE } else { REFUSED };
-    let explainer = Explainer::new(&source, &understood, &image.graph);
+    let explainer = Explainer::new(sender, &source, &understood, &image.graph);
     let text = [
         report_refused(&source, &ran, explainer),
         report_sum(&source, &image.graph, &ran),
@@ -44,13 +47,13 @@ struct Ran {
 }
 
 /// Runs the tickets on a copy of the graph; with all or nothing, up to the first that is refused.
-fn run_list(before: &Graph, tickets: &[Ticket], is_all_or_nothing: bool) -> Ran {
+fn run_list(sender: Sender, before: &Graph, tickets: &[Ticket], is_all_or_nothing: bool) -> Ran {
     let progress = Progress::of(tickets.len());
     let mut graph = before.clone();
     let mut refused = Vec::new();
     let mut done = 0;
     for piece in tickets.chunks(progress.piece()) {
-        let of_piece = run_piece(&mut graph, piece, is_all_or_nothing);
+        let of_piece = run_piece(sender, &mut graph, piece, is_all_or_nothing);
         refused.extend(of_piece.into_iter().map(|(place, refusal)| (done + place, refusal)));
         if is_all_or_nothing && !refused.is_empty() {
             progress.end();
@@ -64,12 +67,17 @@ fn run_list(before: &Graph, tickets: &[Ticket], is_all_or_nothing: bool) -> Ran 
 }
 
 /// Runs a piece of the list; answers the places in it that were refused.
-fn run_piece(graph: &mut Graph, piece: &[Ticket], is_all_or_nothing: bool) -> Vec<(usize, Refusal)> {
+fn run_piece(
+    sender: Sender,
+    graph: &mut Graph,
+    piece: &[Ticket],
+    is_all_or_nothing: bool,
+) -> Vec<(usize, Refusal)> {
     if is_all_or_nothing {
-        let refused = graph.apply_all_or_none(piece).err();
+        let refused = sender.apply_all_or_none(graph, piece).err();
         return refused.map(|refused| (refused.place, refused.refusal)).into_iter().collect();
     }
-    let answers = graph.apply_all(piece).into_iter().enumerate();
+    let answers = sender.apply_all(graph, piece).into_iter().enumerate();
     answers.filter_map(|(place, answer)| answer.err().map(|refusal| (place, refusal))).collect()
 }
 

@@ -54,6 +54,7 @@ fn apply() -> Command {
         .arg(words("The words of one ticket, e.g. insert subclass Pump Machine"))
         .arg(file("Read the tickets from a file, one a line; - is standard input"))
         .arg(flag("all-or-nothing", "Leave the files as they were if a ticket is refused"))
+        .arg(flag("operator", "Run operators' tickets: individual, literal, member and value alone"))
         .arg(names())
         .group(ArgGroup::new("tickets").args(["WORD", "file"]).required(true))
 }

@@ -1,13 +1,15 @@
 //! What is said of a refused ticket after the refusal's own sentence: what it is about, and what to do.
 
 use crate::holders::say_two_holders;
+use crate::sender::Sender;
 use crate::text::named;
 use crate::tickets::{Source, Understood};
 use crate::unknown::{Said, Unknown};
 use vimelosa_host::{Asked, Fact, Graph, Kind, Refusal, Ticket};
 
-/// A list of tickets, and the graph that it is run on.
+/// A list of tickets, whose they are, and the graph that it is run on.
 pub struct Explainer<'a> {
+    sender: Sender,
     source: &'a Source,
     understood: &'a Understood,
     before: &'a Graph,
@@ -17,13 +19,21 @@ pub struct Explainer<'a> {
 }
 
 impl<'a> Explainer<'a> {
-    pub fn new(source: &'a Source, understood: &'a Understood, before: &'a Graph) -> Explainer<'a> {
-        Explainer { source, understood, before, run: None, classes: None, properties: None }
+    pub fn new(
+        sender: Sender,
+        source: &'a Source,
+        understood: &'a Understood,
+        before: &'a Graph,
+    ) -> Explainer<'a> {
+        Explainer { sender, source, understood, before, run: None, classes: None, properties: None }
     }
 
     /// A sentence on the refused ticket at a place; nothing where the refusal's own says all. Places are
     /// asked for in ascending order.
     pub fn explain(&mut self, place: usize, refusal: Refusal) -> Option<String> {
+        if refusal == Refusal::NotForOperators {
+            return Some(say_kinds());
+        }
         let asked = match self.understood.tickets[place].asks() {
             Ok(Asked::Insert(fact)) => fact,
             _ => return None,
@@ -43,8 +53,8 @@ impl<'a> Explainer<'a> {
 
     /// What the ticket at a place finds. The list is run when it is first needed.
     fn found_at(&mut self, place: usize) -> &Graph {
-        let (tickets, before) = (&self.understood.tickets, self.before);
-        self.run.get_or_insert_with(|| Run::of(tickets, before)).found_at(place)
+        let (sender, tickets, before) = (self.sender, &self.understood.tickets, self.before);
+        self.run.get_or_insert_with(|| Run::of(sender, tickets, before)).found_at(place)
     }
 
     /// The first property that the ticket at a place uses and does not find.
@@ -61,8 +71,8 @@ impl<'a> Explainer<'a> {
 
     /// On a class or a property that is not there.
     fn say_unknown(&mut self, kind: Kind, place: usize, id: u8) -> String {
-        let Explainer { source, understood, before, run, classes, properties } = self;
-        let run = run.get_or_insert_with(|| Run::of(&understood.tickets, before));
+        let Explainer { sender, source, understood, before, run, classes, properties } = self;
+        let run = run.get_or_insert_with(|| Run::of(*sender, &understood.tickets, before));
         let unknown = if kind == Kind::Class { classes } else { properties };
         let names = &understood.names;
         let unknown = unknown.get_or_insert_with(|| Unknown::of(kind, run, names));
@@ -87,9 +97,17 @@ impl<'a> Explainer<'a> {
     }
 }
 
+/// Which kinds operators' tickets have.
+fn say_kinds() -> String {
+    let kinds = Kind::ALL.into_iter().filter(|kind| kind.is_for_operators());
+    let kinds: Vec<String> = kinds.map(|kind| kind.to_string()).collect();
+    format!("Operators' tickets have these kinds: {}.", kinds.join(", "))
+}
+
 /// A list while every ticket is tried, also where the first refused drops them all: then what a later ticket
 /// makes can be told too.
 pub struct Run<'a> {
+    pub sender: Sender,
     pub tickets: &'a [Ticket],
     /// Whether each ticket is accepted.
     pub accepted: Vec<bool>,
@@ -101,16 +119,16 @@ pub struct Run<'a> {
 }
 
 impl<'a> Run<'a> {
-    fn of(tickets: &'a [Ticket], before: &Graph) -> Run<'a> {
+    fn of(sender: Sender, tickets: &'a [Ticket], before: &Graph) -> Run<'a> {
         let (found, mut left) = (before.clone(), before.clone());
-        let accepted = left.apply_all(tickets).iter().map(Result::is_ok).collect();
-        Run { tickets, accepted, left, found, place: 0 }
+        let accepted = sender.apply_all(&mut left, tickets).iter().map(Result::is_ok).collect();
+        Run { sender, tickets, accepted, left, found, place: 0 }
     }
 
     /// What the ticket at a place finds; no place before the last one is asked for.
     pub fn found_at(&mut self, place: usize) -> &Graph {
         if place > self.place {
-            let _ = self.found.apply_all(&self.tickets[self.place..place]);
+            let _ = self.sender.apply_all(&mut self.found, &self.tickets[self.place..place]);
             self.place = place;
         }
         &self.found

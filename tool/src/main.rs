@@ -23,6 +23,7 @@ mod nearest;
 mod new;
 mod progress;
 mod replace;
+mod sender;
 mod show;
 mod stat;
 mod text;

@@ -2,6 +2,7 @@
 
 use crate::explain::Run;
 use crate::nearest::nearest;
+use crate::sender::Sender;
 use crate::text::named;
 use std::collections::BTreeMap;
 use vimelosa_host::{Asked, Fact, Graph, Kind, Names, Range, Ticket};
@@ -10,6 +11,7 @@ use vimelosa_host::{Asked, Fact, Graph, Kind, Names, Range, Ticket};
 pub struct Unknown<'a> {
     /// Class or property.
     kind: Kind,
+    sender: Sender,
     names: &'a Names,
     /// The places of the accepted tickets that an id can come from as one of the kind, ascending.
     makers: BTreeMap<u8, Vec<usize>>,
@@ -31,7 +33,7 @@ impl<'a> Unknown<'a> {
                 makers.entry(id).or_default().push(place);
             }
         }
-        Unknown { kind, names, makers, said: BTreeMap::new() }
+        Unknown { kind, sender: run.sender, names, makers, said: BTreeMap::new() }
     }
 
     /// The first ticket after a place that the id can come from.
@@ -57,15 +59,17 @@ impl<'a> Unknown<'a> {
         match (other, self.nearest_name(graphs, id)) {
             (Some(thing), _) => format!("{name} is {thing}, not a {kind}."),
             (None, Some(near)) => format!("There is no {kind} {name}; the nearest is {near}."),
-            (None, None) => format!("There is no {kind} {name}; `{}` makes it.", self.maker(&name)),
+            (None, None) => format!("There is no {kind} {name}; {} makes it.", self.maker(&name)),
         }
     }
 
-    /// The words of a ticket that makes it.
+    /// The words of a ticket that makes it, which is not one for operators.
     fn maker(&self, name: &str) -> String {
-        match self.kind {
-            Kind::Property => format!("insert property {name} DOMAIN RANGE"),
-            kind => format!("insert {kind} {name}"),
+        let ends = if self.kind == Kind::Property { " DOMAIN RANGE" } else { "" };
+        let ticket = format!("`insert {} {name}{ends}`", self.kind);
+        match self.sender {
+            Sender::Anyone => ticket,
+            Sender::Operator => format!("{ticket}, without --operator,"),
         }
     }
 

@@ -11,11 +11,12 @@ use lib.ListN.{length}
 use borrow.Author.Tests.{lt-ltb, le-ltb, ltb-false}
 use Rattle.rdfs.specs.Numbers.{product, recordLength}
 use Rattle.rdfs.specs.Refusals.{orElse}
-use Rattle.rdfs.specs.Register.{step, cut, Table}
+use Rattle.rdfs.specs.Register.{cut, Table}
+use Rattle.rdfs.specs.Operators.{stepAs}
 use Rattle.rdfs.proofs.tickets.FirstTrue.{passed-link}
 use Rattle.rdfs.proofs.register.RunLaws.{runs-numbers, runs-words, runs-table}
 use Rattle.table.proofs.TestAnswers.{is-false}
-use Rattle.list_form.proofs.Runs.{register-runs, register-keeps}
+use Rattle.list_form.proofs.Runs.{as-runs, steps-keep}
 use Rattle.contents.specs.ImageForm.{form, largestFact, firstBody}
 use Rattle.writing.proofs.Measuring.{image-small}
 use Rattle.writing.proofs.WriteCall.{table-writing}
@@ -30,41 +31,43 @@ unrefused : (b : Bool) (n : ℕ) → (n ≡ 0 → ⊥) → orElse b n 0 ≡ 0 �
 unrefused b n h e = is-false (passed-link b n 0 0 h e .0)
 
 -- What the list leaves, on an image that is read.
-module _ (image tickets : List ℕ) where
-  pub ran-numbers : length (ran image tickets .numbers) ≡ ticketCount tickets
+module _ (operator : Bool) (image tickets : List ℕ) where
+  pub ran-numbers : length (ran operator image tickets .numbers) ≡ ticketCount tickets
   unfolding ran
   ran-numbers =
       let w : List ℕ = readWords room image in
-      ap (λ d. length (d .numbers)) (register-runs w tickets) ∙ runs-numbers (step product) (cut recordLength tickets) w
+      ap (λ d. length (d .numbers)) (as-runs operator w tickets) ∙ runs-numbers (stepAs operator product)
+      (cut recordLength tickets) w
 
-  pub ran-length : length (ran image tickets .table) ≡ product .most
+  pub ran-length : length (ran operator image tickets .table) ≡ product .most
   unfolding ran
   ran-length =
       let w : List ℕ = readWords room image in
-      ap (λ d. length (d .table)) (register-runs w tickets)
-      ∙ (runs-words (step product) register-keeps (cut recordLength tickets) w ∙ read-length room image)
+      ap (λ d. length (d .table)) (as-runs operator w tickets)
+      ∙ (runs-words (stepAs operator product) (steps-keep operator) (cut recordLength tickets) w ∙ read-length room image)
 
-  pub ran-table : readAnswer room image ≡ 0 → Table product (ran image tickets .table)
+  pub ran-table : readAnswer room image ≡ 0 → Table product (ran operator image tickets .table)
   unfolding ran
   ran-table e =
       let w : List ℕ = readWords room image in
-      subst (λ d. Table product (d .table)) (sym (register-runs w tickets))
-      (runs-table (step product) register-keeps (cut recordLength tickets) w (read-table image 0 (sym e) refl refl))
+      subst (λ d. Table product (d .table)) (sym (as-runs operator w tickets))
+      (runs-table (stepAs operator product) (steps-keep operator) (cut recordLength tickets) w
+      (read-table image 0 (sym e) refl refl))
 
   -- An output of the longest image's length has room.
   pub longest-fits : (output : List ℕ) → firstBody form + largestFact form * product .most ≤ length output
-      → HasRoom image tickets output
+      → HasRoom operator image tickets output
   longest-fits output h e =
-      let left : List ℕ = ran image tickets .table in
+      let left : List ℕ = ran operator image tickets .table in
       omega (arith, h, image-small left _ (table-writing (ran-table e) _ refl .writable))
 
   -- Not refused: neither by reading and with 14, nor with 13.
-  pub not-refused : (answers output : ℕ) → hostListRefusal image tickets answers output ≡ 0
-      → (readRefusal room image (ticketCount tickets) answers ≡ 0) × (length (imageLeft image tickets) ≤ output)
+  pub not-refused : (answers output : ℕ) → hostListRefusal operator image tickets answers output ≡ 0
+      → (readRefusal room image (ticketCount tickets) answers ≡ 0) × (length (imageLeft operator image tickets) ≤ output)
   unfolding hostListRefusal
   not-refused answers output e =
       let before : ℕ = readRefusal room image (ticketCount tickets) answers in
-      let size : ℕ = length (imageLeft image tickets) in
+      let size : ℕ = length (imageLeft operator image tickets) in
       let last : ℕ = orElse (ltb output size) 13 0 in
       elim (ℕ-discrete before 0) [
         | yes z ↦ (

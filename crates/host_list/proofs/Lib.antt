@@ -1,4 +1,3 @@
--- Refused: a refusal in a call's number. HostListLaws: the parts of the list call. HostListWays: each way through it.
-pub mod Refused
+-- HostListLaws: the parts of the list call. HostListWays: each way through it.
 pub mod HostListLaws
 pub mod HostListWays

@@ -1,10 +1,10 @@
-// A list of tickets on an image: read, run each, write.
+// A list of tickets, anyone's or a shift operator's, on an image: read, run each, write.
 //
-// `run_on_image` is what the host's list call does; it has no `requires`: it says, for all bytes, the number
+// `run_on_image` is what the host's list calls do; it has no `requires`: it says, for all bytes, the number
 // that it answers and every byte that it leaves. The crate assumes nothing.
 ghost use mathlib.Core.Path.{_≡_};
 ghost use Rattle.reading.specs.ReadPromise.{readWords};
-ghost use Rattle.host_list.specs.HostList.{readRefusal, hostListRefusal, HostListPromise, HasRoom};
+ghost use Rattle.host_list.specs.HostList.{readRefusal, hostListRefusal, HostListPromiseAs, HasRoom};
 use contents::LONGEST;
 use image::read;
 use image::write_checked;
@@ -40,15 +40,16 @@ fn read_for(table: &mut [Word], image: &[u8], tickets: usize, room: usize) -> u8
 
 // The call's refusal, or 0, with so many bytes of room for answers and for the image: found on a table of its
 // own, nothing lent is written.
-fn find_refusal(image: &[u8], tickets: &[u8], room: usize, space: usize) -> u8
-    ensures answer { λ r. ⌜ r ≡ hostListRefusal (now (image .entry)) (now (tickets .entry)) room space ⌝ }
+fn find_refusal(operator: bool, image: &[u8], tickets: &[u8], room: usize, space: usize) -> u8
+    ensures answer { λ r. ⌜ r ≡ hostListRefusal operator (now (image .entry)) (now (tickets .entry)) room
+        space ⌝ }
 {
     let mut table: [Word; MOST] = [0; MOST];
     let refusal = read_for(&mut table, image, count_tickets(tickets.len()), room);
     if refusal != 0 {
         return refusal;
     }
-    run_unanswered(&mut table, tickets);
+    run_unanswered(operator, &mut table, tickets);
     if space < length_checked(&table) {
         return SHORT_OUTPUT;
     }
@@ -56,9 +57,15 @@ fn find_refusal(image: &[u8], tickets: &[u8], room: usize, space: usize) -> u8
 }
 
 // The call with an output that has room for the image, whatever the tickets leave.
-fn run_list(image: &[u8], tickets: &[u8], answers: &mut [u8], output: &mut [u8]) -> u64
-    requires room { ⌜ HasRoom (now image) (now tickets) (now output) ⌝ }
-    ensures promise { λ r. ⌜ HostListPromise (now (image .entry)) (now (tickets .entry))
+fn run_list(
+    operator: bool,
+    image: &[u8],
+    tickets: &[u8],
+    answers: &mut [u8],
+    output: &mut [u8],
+) -> u64
+    requires room { ⌜ HasRoom operator (now image) (now tickets) (now output) ⌝ }
+    ensures promise { λ r. ⌜ HostListPromiseAs operator (now (image .entry)) (now (tickets .entry))
         (now (answers .entry)) (now (output .entry)) r (now (answers .exit)) (now (output .exit)) ⌝ }
 {
     let mut table: [Word; MOST] = [0; MOST];
@@ -67,7 +74,7 @@ fn run_list(image: &[u8], tickets: &[u8], answers: &mut [u8], output: &mut [u8])
     if refusal != 0 {
         return pack(refusal, 0, 0, 0);
     }
-    let accepted = run_checked(&mut table, tickets, answers);
+    let accepted = run_checked(operator, &mut table, tickets, answers);
     let refused = count - accepted;
     let written = write_checked(&table, output);
     pack(0, accepted as u16, refused as u16, written.length)
@@ -77,15 +84,21 @@ fn run_list(image: &[u8], tickets: &[u8], answers: &mut [u8], output: &mut [u8])
 // answer byte and the image of what they left to the output. Answers the number, the tickets accepted, the
 // tickets refused and the image's length. Refused with 12, 11, 3, 14 or 13, the last three are 0, and the
 // answer bytes and the output are as they were: an output shorter than the longest image is tried first.
-pub fn run_on_image(image: &[u8], tickets: &[u8], answers: &mut [u8], output: &mut [u8]) -> u64
-    ensures promise { λ r. ⌜ HostListPromise (now (image .entry)) (now (tickets .entry))
+pub fn run_on_image(
+    operator: bool,
+    image: &[u8],
+    tickets: &[u8],
+    answers: &mut [u8],
+    output: &mut [u8],
+) -> u64
+    ensures promise { λ r. ⌜ HostListPromiseAs operator (now (image .entry)) (now (tickets .entry))
         (now (answers .entry)) (now (output .entry)) r (now (answers .exit)) (now (output .exit)) ⌝ }
 {
     if output.len() < LONGEST {
-        let refusal = find_refusal(image, tickets, answers.len(), output.len());
+        let refusal = find_refusal(operator, image, tickets, answers.len(), output.len());
         if refusal != 0 {
             return pack(refusal, 0, 0, 0);
         }
     }
-    run_list(image, tickets, answers, output)
+    run_list(operator, image, tickets, answers, output)
 }

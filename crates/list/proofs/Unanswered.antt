@@ -2,11 +2,13 @@
 -- nothing.
 use Prim.Native.Nat.{ℕ, _+_, _-_, _≤_, _<_, min}
 use mathlib.Core.Path.{_≡_, refl}
+use mathlib.Core.Bool.{Bool}
 use mathlib.Core.List.{List}
 use native.Mathlib.Omega.{arith}
 use lib.ListN.{length, take, drop, set}
 use Rattle.rdfs.specs.Numbers.{product, recordLength}
-use Rattle.rdfs.specs.Register.{Answer, step, runWith, cut, register, Table}
+use Rattle.rdfs.specs.Register.{Answer, runWith, cut, Table}
+use Rattle.rdfs.specs.Operators.{stepAs, registerAs}
 use Rattle.rdfs.proofs.register.RunLaws.{Keeps, runs-numbers}
 use Rattle.list_form.specs.Loops.{acceptedAfter}
 use Rattle.list_form.proofs.ByteWalk.{ByteWalk, byte-start, byte-words, byte-table, byte-more, register-done}
@@ -52,7 +54,8 @@ module _ {one : List ℕ → List ℕ → Answer} {start bytes : List ℕ} {from
         walk = byte-more (q .walk) h end (record { accepted = refl; words = e; numbers = refl });
       }
 
--- By the register's own step.
-pub unanswered-done : {start bytes : List ℕ} {from : ℕ} {w : List ℕ} → Unanswered (step product) start bytes from w
-    → length bytes ≤ from → w ≡ register product start bytes .table
-unanswered-done q h = register-done (q .walk) h .words
+-- By the register's step, with operators' tickets or with anyone's.
+pub unanswered-done : (operator : Bool) {start bytes : List ℕ} {from : ℕ} {w : List ℕ}
+    → Unanswered (stepAs operator product) start bytes from w → length bytes ≤ from
+    → w ≡ registerAs operator product start bytes .table
+unanswered-done operator q h = register-done operator (q .walk) h .words

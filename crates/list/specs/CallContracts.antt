@@ -7,12 +7,19 @@ use Rattle.ticket.specs.declared.answer.Applied.{Applied}
 use Rattle.list_form.specs.declared.answers.Listed.{Listed}
 use Rattle.list_form.specs.Listing.{ListPromise, RecordsPromise}
 
--- The calls: by the words and bytes that one is lent, what it may answer, and the words and answer bytes that
--- it may leave.
+-- A call with one ticket, and one with a list as bytes: by the words and bytes that it is lent, what it may
+-- answer, and the words and answer bytes that it may leave.
+abbrev pub SingleCall : Type 1
+SingleCall = (table ticket : List ℕ) → Applied → List ℕ → Type 0
+
+abbrev pub ListCall : Type 1
+ListCall = (table bytes answers : List ℕ) → Listed → List ℕ → List ℕ → Type 0
+
+-- The calls.
 pub record Calls : Type 1 where
-  pub apply : (table ticket : List ℕ) → Applied → List ℕ → Type 0
-  pub apply-each : (table bytes answers : List ℕ) → Listed → List ℕ → List ℕ → Type 0
-  pub apply-list : (table bytes answers : List ℕ) → Listed → List ℕ → List ℕ → Type 0
+  pub apply : SingleCall
+  pub apply-each : ListCall
+  pub apply-list : ListCall
   pub apply-records : (table : List ℕ) (tickets : List Ticket) (answers : List ℕ) → Listed → List ℕ → List ℕ
       → Type 0
 
@@ -37,13 +44,12 @@ pub record Single : Type 0 where
   pub table : List ℕ
 
 -- Single calls one after another, one for each ticket, each on the words that the one before left.
-abbrev pub OneByOne : Calls → List ℕ → List (List ℕ) → List Single → Type 0
-OneByOne calls table [] [] = Unit {0}
-OneByOne calls table [] (single ∷ singles) = ⊥
-OneByOne calls table (ticket ∷ tickets) [] = ⊥
-OneByOne calls table (ticket ∷ tickets) (single ∷ singles) =
-    calls .apply table ticket (single .answer) (single .table) × OneByOne calls (single .table) tickets
-    singles
+abbrev pub OneByOne : SingleCall → List ℕ → List (List ℕ) → List Single → Type 0
+OneByOne call table [] [] = Unit {0}
+OneByOne call table [] (single ∷ singles) = ⊥
+OneByOne call table (ticket ∷ tickets) [] = ⊥
+OneByOne call table (ticket ∷ tickets) (single ∷ singles) =
+    call table ticket (single .answer) (single .table) × OneByOne call (single .table) tickets singles
 
 -- The words that the last of them leaves; those at the start if there is none.
 abbrev pub leftBy : List ℕ → List Single → List ℕ

@@ -33,7 +33,7 @@ pub record Ran (answers : List ℕ) (listed : Listed) (after out : List ℕ) (do
 -- Every call on a list, from the same words at first, does as the register. A list of whole records may be
 -- handed over as ticket structs.
 pub record AsRegister (calls : Calls) (table bytes answers : List ℕ) : Type 0 where
-  pub singly : (singles : List Single) → OneByOne calls table (cut recordLength bytes) singles
+  pub singly : (singles : List Single) → OneByOne (calls .apply) table (cut recordLength bytes) singles
       → RanSingly table singles (register product table bytes)
   pub each : (listed : Listed) (after out : List ℕ) → calls .apply-each table bytes answers listed after out
       → Ran answers listed after out (register product table bytes)
@@ -64,7 +64,8 @@ pub record Demand3 (calls : Calls) (table bytes answers : List ℕ) : Type 0 whe
   -- leave the register's words there.
   pub cut-off : (i : ℕ) → AsRegister calls table (cutOff i bytes) answers
   pub first-tickets : (i : ℕ) → cut recordLength (cutOff i bytes) ≡ take i (cut recordLength bytes)
-  pub single-words : (singles : List Single) → OneByOne calls table (cut recordLength bytes) singles → (i : ℕ)
+  pub single-words : (singles : List Single) → OneByOne (calls .apply) table (cut recordLength bytes) singles
+      → (i : ℕ)
       → leftBy table (take i singles) ≡ register product table (cutOff i bytes) .table
   -- After each ticket.
   pub after-each : (i : ℕ) → i < length (cut recordLength bytes)

@@ -1,2 +1,3 @@
 pub mod CallContracts
 pub mod Demand3
+pub mod OperatorLists

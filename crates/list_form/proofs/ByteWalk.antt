@@ -1,15 +1,17 @@
 -- A loop over the bytes of a list: the ticket from a place on is run, and what follows it is left. Assumes nothing.
 use Prim.Native.Nat.{ℕ, _+_, _-_, _≤_, _<_, min}
 use mathlib.Core.Path.{_≡_, sym, ap, subst, _∙_}
+use mathlib.Core.Bool.{Bool}
 use mathlib.Core.List.{List, _∷_}
 use native.Mathlib.Omega.{arith}
 use lib.ListN.{length, take, drop, set}
 use Rattle.rdfs.specs.Numbers.{product, recordLength}
-use Rattle.rdfs.specs.Register.{Answer, step, runWith, cut, register, Table}
+use Rattle.rdfs.specs.Register.{Answer, runWith, cut, Table}
+use Rattle.rdfs.specs.Operators.{stepAs, registerAs}
 use Rattle.rdfs.proofs.register.RunLaws.{Keeps}
 use Rattle.list_form.specs.Loops.{acceptedAfter, OneRun, AllRun}
 use Rattle.list_form.proofs.CutOff.{cut-from, cut-end}
-use Rattle.list_form.proofs.Runs.{register-runs}
+use Rattle.list_form.proofs.Runs.{as-runs}
 use Rattle.list_form.proofs.Walked.{
   Walked,
   walked-start,
@@ -76,9 +78,9 @@ module _ {one : List ℕ → List ℕ → Answer} {start room bytes : List ℕ} 
       walked = walked-more next o;
     }
 
--- By the register's own step.
-pub register-done : {start room bytes : List ℕ} {from i ok : ℕ} {w out : List ℕ}
-    → ByteWalk (step product) start room bytes from i ok w out → length bytes ≤ from
-    → AllRun ok w room out (register product start bytes)
-register-done {start} {room} {bytes} {from} {i} {ok} {w} {out} q h =
-    subst (AllRun ok w room out) (sym (register-runs start bytes)) (byte-done q h)
+-- By the register's step, with operators' tickets or with anyone's.
+pub register-done : (operator : Bool) {start room bytes : List ℕ} {from i ok : ℕ} {w out : List ℕ}
+    → ByteWalk (stepAs operator product) start room bytes from i ok w out → length bytes ≤ from
+    → AllRun ok w room out (registerAs operator product start bytes)
+register-done operator {start} {room} {bytes} {from} {i} {ok} {w} {out} q h =
+    subst (AllRun ok w room out) (sym (as-runs operator start bytes)) (byte-done q h)

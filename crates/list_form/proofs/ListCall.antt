@@ -10,14 +10,15 @@ use lib.ListN.{length}
 use borrow.Author.Tests.{ltb-false}
 use Rattle.rdfs.specs.Numbers.{product, recordLength}
 use Rattle.rdfs.specs.Refusals.{orElse, tableRefusal}
-use Rattle.rdfs.specs.Register.{step, Done, cut, register, Table}
+use Rattle.rdfs.specs.Register.{Done, cut, Table}
+use Rattle.rdfs.specs.Operators.{stepAs, registerAs}
 use Rattle.rdfs.proofs.register.Cut.{cut-length}
 use Rattle.rdfs.proofs.register.RunLaws.{runs-numbers}
 use Rattle.rdfs.proofs.tickets.Steps.{checked-table, table-passes, table-stops}
 use Rattle.list_form.specs.declared.answers.Listed.{Listed}
-use Rattle.list_form.specs.Listing.{acceptedOf, refusedOf, refusalOf, listingBy, listing, ListAnswered}
+use Rattle.list_form.specs.Listing.{acceptedOf, refusedOf, refusalOf, listingBy, listingAs, ListAnswered}
 use Rattle.list_form.specs.Loops.{ticketsIn, AllRun, listedOf}
-use Rattle.list_form.proofs.Runs.{register-runs, all-counted}
+use Rattle.list_form.proofs.Runs.{as-runs, all-counted}
 
 -- What is known of a list that is not refused.
 module _ (w : List ℕ) (n room : ℕ) (e : refusalOf w n room ≡ 0) where
@@ -89,21 +90,26 @@ module _ {w answers : List ℕ} {m n a : ℕ} {v : List ℕ} (j : Judged w m ans
             numbers = ran-here .numbers;
           }
 
--- A list that the register is to run.
-register-numbers : (bytes w : List ℕ) → length (register product w bytes .numbers) ≡ length (cut recordLength bytes)
-register-numbers bytes w =
-    ap (λ d. length (d .numbers)) (register-runs w bytes) ∙ runs-numbers (step product) (cut recordLength bytes) w
+-- A list that the register is to run, with operators' tickets or with anyone's.
+module _ (operator : Bool) (bytes : List ℕ) where
+  abbrev does : List ℕ → Done
+  does u = registerAs operator product u bytes
 
-module _ (bytes : List ℕ) {w answers : List ℕ} {n a : ℕ} {v : List ℕ} (j : Judged w (length (cut recordLength bytes)) answers n a
-    v) where
-  pub list-refused : {r : Listed} → (a ≡ 0 → ⊥) → r ≡ listedOf a 0 0 → ListAnswered r v answers (listing w bytes answers)
-  unfolding listing
-  list-refused = call-refused j (λ u. register product u bytes)
+  numbered : (w : List ℕ) → length (does w .numbers) ≡ length (cut recordLength bytes)
+  numbered w = ap (λ d. length (d .numbers)) (as-runs operator w bytes) ∙ runs-numbers (stepAs operator product)
+      (cut recordLength bytes) w
 
-  module _ {ok : ℕ} {u out : List ℕ} (ran : AllRun ok u answers out (register product v bytes)) where
-    pub list-within : ok ≤ n
-    list-within = call-within j (λ u. register product u bytes) (register-numbers bytes) ran
+  module _ {w answers : List ℕ} {n a : ℕ} {v : List ℕ} (j : Judged w (length (cut recordLength bytes)) answers n a v) where
+    pub list-refused : {r : Listed} → (a ≡ 0 → ⊥) → r ≡ listedOf a 0 0
+        → ListAnswered r v answers (listingAs operator w bytes answers)
+    unfolding listingAs
+    list-refused = call-refused j does
 
-    pub list-run : {r : Listed} → a ≡ 0 → r ≡ listedOf a n ok → ListAnswered r u out (listing w bytes answers)
-    unfolding listing
-    list-run = call-run j (λ u. register product u bytes) (register-numbers bytes) ran
+    module _ {ok : ℕ} {u out : List ℕ} (ran : AllRun ok u answers out (does v)) where
+      pub list-within : ok ≤ n
+      list-within = call-within j does numbered ran
+
+      pub list-run : {r : Listed} → a ≡ 0 → r ≡ listedOf a n ok
+          → ListAnswered r u out (listingAs operator w bytes answers)
+      unfolding listingAs
+      list-run = call-run j does numbered ran

@@ -8,18 +8,33 @@ use lib.Dec.{eqb}
 use lib.ListN.{length}
 use Rattle.rdfs.specs.Numbers.{product, recordLength}
 use Rattle.rdfs.specs.Register.{Answer, step, runWith, run, cut, register, Table}
+use Rattle.rdfs.specs.Operators.{stepAs, registerAs}
 use Rattle.rdfs.proofs.register.RunLaws.{Keeps, runs-more-words, runs-words, runs-table}
 use Rattle.rdfs.proofs.register.AfterEach.{step-keeps}
+use Rattle.rdfs.proofs.operators.OperatorSteps.{as-keeps}
 use Rattle.rdfs.proofs.Theorems.{product-sound}
 use Rattle.list_form.specs.Listing.{acceptedOf, refusedOf}
 
--- The register runs the tickets of bytes by its own step, which keeps tables.
+-- The register runs the tickets of bytes by its own step.
 pub register-runs : (w bytes : List ℕ) → register product w bytes ≡ runWith (step product) w (cut recordLength bytes)
 unfolding register run
 register-runs w bytes = refl
 
 pub register-keeps : Keeps product (step product)
 register-keeps = step-keeps product product-sound
+
+-- So it does with operators' tickets, or with anyone's; with anyone's it is the register. Its step keeps tables.
+pub as-runs : (operator : Bool) (w bytes : List ℕ)
+    → registerAs operator product w bytes ≡ runWith (stepAs operator product) w (cut recordLength bytes)
+unfolding registerAs
+as-runs operator w bytes = refl
+
+pub as-register : (w bytes : List ℕ) → registerAs false product w bytes ≡ register product w bytes
+unfolding registerAs register run
+as-register w bytes = refl
+
+pub steps-keep : (operator : Bool) → Keeps product (stepAs operator product)
+steps-keep = as-keeps product product-sound
 
 -- Accepted and refused are all.
 pub all-counted : (numbers : List ℕ) → acceptedOf numbers + refusedOf numbers ≡ length numbers

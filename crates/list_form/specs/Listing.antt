@@ -1,14 +1,15 @@
 -- What the list calls answer and leave, for all words of a table, bytes of a list and answer bytes.
 use Prim.Native.Nat.{ℕ, zero, suc}
 use mathlib.Core.Path.{_≡_}
-use mathlib.Core.Bool.{Bool, not}
+use mathlib.Core.Bool.{Bool, true, false, not}
 use mathlib.Core.List.{List, [], _∷_, _++_}
 use lib.Dec.{eqb, ltb}
 use lib.ListN.{length, drop}
 use Rattle.rdfs.specs.Numbers.{product, recordLength}
 use Rattle.rdfs.specs.Lists.{count, concatMap}
 use Rattle.rdfs.specs.Refusals.{firstTrue, tableRefusal}
-use Rattle.rdfs.specs.Register.{Done, cut, register}
+use Rattle.rdfs.specs.Register.{Done, cut}
+use Rattle.rdfs.specs.Operators.{registerAs}
 use Rattle.ticket_form.specs.TicketForm.{bytesOf}
 use Rattle.ticket_form.specs.declared.fields.Ticket.{Ticket}
 use Rattle.list_form.specs.declared.answers.Listed.{Listed}
@@ -56,11 +57,18 @@ listingBy zero table answers done = record {
 listingBy (suc number) table answers done =
     record { answer = suc number; accepted = 0; refused = 0; table = table; answers = answers }
 
--- The list call on the words of a table, the bytes of a list and answer bytes, whatever they are.
-unfoldable pub listing : List ℕ → List ℕ → List ℕ → Listing
-listing table bytes answers =
-    let done : Done = register product table bytes in
+-- The list call with operators' tickets or with anyone's, on the words of a table, the bytes of a list and
+-- answer bytes, whatever they are.
+unfoldable pub listingAs : (operator : Bool) → List ℕ → List ℕ → List ℕ → Listing
+listingAs operator table bytes answers =
+    let done : Done = registerAs operator product table bytes in
     listingBy (listRefusal table bytes answers) table answers done
+
+abbrev pub listing : List ℕ → List ℕ → List ℕ → Listing
+listing = listingAs false
+
+abbrev pub operatorListing : List ℕ → List ℕ → List ℕ → Listing
+operatorListing = listingAs true
 
 -- A call answers and leaves this.
 pub record ListAnswered (listed : Listed) (table answers : List ℕ) (whole : Listing) : Type 0 where
@@ -80,6 +88,12 @@ recordBytes tickets = concatMap bytesOf tickets
 abbrev pub ListPromise : (before bytes answers : List ℕ) → Listed → (after out : List ℕ) → Type 0
 ListPromise before bytes answers listed after out =
     ListAnswered listed after out (listing before bytes answers)
+
+-- What `apply_operator_list` promises: the same of operators' tickets. proofs/OperatorListTied of its crate
+-- says that it is the contract in the source.
+abbrev pub OperatorListPromise : (before bytes answers : List ℕ) → Listed → (after out : List ℕ) → Type 0
+OperatorListPromise before bytes answers listed after out =
+    ListAnswered listed after out (operatorListing before bytes answers)
 
 -- What `apply_records` promises: the same of its tickets' bytes.
 abbrev pub RecordsPromise : (before : List ℕ) (tickets : List Ticket) (answers : List ℕ) → Listed

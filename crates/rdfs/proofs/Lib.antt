@@ -8,5 +8,7 @@ pub mod insertion
 pub mod deletion
 pub mod clash
 pub mod register
+pub mod operators
 pub mod Theorems
 pub mod ExclusiveTheorems
+pub mod OperatorTheorems

@@ -11,6 +11,7 @@ pub mod Deletion
 pub mod Tickets
 pub mod Refusals
 pub mod Register
+pub mod Operators
 pub mod Lookups
 pub mod Orders
 pub mod Promises

@@ -37,3 +37,7 @@ arity k = getD (0 ∷ arities) k 0
 -- The kinds that a ticket may have.
 abbrev pub ticketKinds : List ℕ
 ticketKinds = 1 ∷ 2 ∷ 3 ∷ 4 ∷ 5 ∷ 6 ∷ 9 ∷ 10 ∷ 11 ∷ []
+
+-- The kinds that an operator's ticket may have: Ind, Lit, CI, PI.
+abbrev pub operatorKinds : List ℕ
+operatorKinds = 3 ∷ 4 ∷ 9 ∷ 10 ∷ []

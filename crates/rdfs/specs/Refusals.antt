@@ -69,23 +69,32 @@ layoutTests N table = (1, badSize N table) ∷ (2, badLayout N table) ∷ []
 abbrev pub tableTests : Numbers → List ℕ → List (ℕ × Bool)
 tableTests N table = layoutTests N table ++ ((3, inconsistent N table) ∷ [])
 
--- What a ticket shows without a table.
+-- What a ticket shows without a table: 5 to 7, which its sender causes, then 8.
+abbrev pub fieldTests : Numbers → Ticket → List (ℕ × Bool)
+fieldTests N ticket = (5, badOperation ticket) ∷ (6, badKind ticket) ∷ (7, badIds (N .top) ticket) ∷ []
+
 abbrev pub formTests : Numbers → Ticket → List (ℕ × Bool)
-formTests N ticket =
-    (5, badOperation ticket) ∷ (6, badKind ticket) ∷ (7, badIds (N .top) ticket) ∷ (8, guarded ticket) ∷ []
+formTests N ticket = fieldTests N ticket ++ ((8, guarded ticket) ∷ [])
+
+-- The sender's refusals: 4 to 7.
+abbrev pub senderTests : Numbers → List ℕ → List (ℕ × Bool)
+senderTests N bytes = (4, badLength bytes) ∷ fieldTests N (decoded bytes)
+
+-- Those of the graph's state, 8 to 11 and 16, on a table of facts K, if `new` is the graph that the ticket
+-- would leave.
+abbrev pub stateTests : Numbers → List ℕ → List Fact → List Fact → Ticket → List (ℕ × Bool)
+stateTests N table K new ticket =
+    (8, guarded ticket) ∷ (9, unknownProperty K ticket) ∷ (16, unknownClass K ticket)
+    ∷ (10, clashing new ticket) ∷ (11, tooMany N table new) ∷ []
 
 -- The graph that an accepted ticket leaves.
 abbrev pub outcome : ℕ → List Fact → Ticket → List Fact
 outcome top K ticket =
     elim (inserts ticket) [ true ↦ insertion top K (asked ticket) | false ↦ deletion K (named ticket) ]
 
--- A ticket on a table of facts K, if `new` is the graph that it would leave.
+-- All of a ticket's.
 abbrev pub ticketTests : Numbers → List ℕ → List Fact → List Fact → List ℕ → List (ℕ × Bool)
-ticketTests N table K new bytes =
-    let ticket : Ticket = decoded bytes in
-    ((4, badLength bytes) ∷ formTests N ticket)
-    ++ ((9, unknownProperty K ticket) ∷ (16, unknownClass K ticket)
-    ∷ (10, clashing new ticket) ∷ (11, tooMany N table new) ∷ [])
+ticketTests N table K new bytes = senderTests N bytes ++ stateTests N table K new (decoded bytes)
 
 -- 1 and 2, then those of a call's own; 1, 2, 3, then those; 4 to 9, 16, 10, 11.
 abbrev pub layoutRefusal : Numbers → List ℕ → ℕ → ℕ

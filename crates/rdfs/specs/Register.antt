@@ -23,6 +23,10 @@ pub record Answer : Type 0 where
 abbrev pub besides : List ℕ → List ℕ → ℕ
 besides old new = length (filter (λ n. not (member old n)) new)
 
+-- The answer to a refused ticket.
+abbrev pub refusedWith : ℕ → List ℕ → Answer
+refusedWith number table = record { number = number; added = 0; removed = 0; table = table }
+
 -- The answer by its number, if the ticket would leave the facts of these words.
 abbrev pub answer : ℕ → List ℕ → List ℕ → Answer
 answer zero table new = record {
@@ -31,7 +35,7 @@ answer zero table new = record {
   removed = besides new (filled table);
   table = padded (length table) new;
 }
-answer (suc n) table new = record { number = suc n; added = 0; removed = 0; table = table }
+answer (suc n) table new = refusedWith (suc n) table
 
 -- One ticket, whatever its bytes, on the words of a table, whatever they are.
 unfoldable pub step : Numbers → List ℕ → List ℕ → Answer

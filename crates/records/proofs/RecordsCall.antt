@@ -1,13 +1,15 @@
 -- The call from its parts: the refusal, the turns, the loop, the counts. Assumes nothing.
 use Prim.Native.Nat.{ℕ, zero, suc}
 use mathlib.Core.Path.{_≡_, refl, sym, ap, subst, _∙_}
+use mathlib.Core.Bool.{false}
 use mathlib.Core.List.{List, [], _∷_, map}
 use native.Mathlib.Omega.{arith}
 use native.Mathlib.Decide.{ℕ-discrete}
 use lib.ListN.{length, take, length-map}
 use lib.Seq.{take-all}
 use Rattle.rdfs.specs.Numbers.{product, recordLength}
-use Rattle.rdfs.specs.Register.{run, cut, register}
+use Rattle.rdfs.specs.Register.{run, cut}
+use Rattle.rdfs.specs.Operators.{registerAs}
 use Rattle.rdfs.proofs.register.Cut.{cut-record}
 use Rattle.ticket_form.specs.TicketForm.{bytesOf}
 use Rattle.ticket_form.specs.declared.fields.Ticket.{Ticket}
@@ -55,8 +57,8 @@ module _ (w : List ℕ) (l : List Ticket) (answers : List ℕ) {a n : ℕ} {v : 
   ]
 
   -- All of them are run, or none.
-  all-run : a ≡ 0 → run product v (map bytesOf (take n l)) ≡ register product v (recordBytes l)
-  unfolding register
+  all-run : a ≡ 0 → run product v (map bytesOf (take n l)) ≡ registerAs false product v (recordBytes l)
+  unfolding registerAs run
   all-run e = ap (λ m. run product v (map bytesOf m)) (take-all n l (omega (arith, all-turns e)))
       ∙ ap (run product v) (sym (cut-records l))
 
@@ -67,7 +69,7 @@ module _ (w : List ℕ) (l : List Ticket) (answers : List ℕ) {a n : ℕ} {v : 
   module _ {k : ℕ} {r : Listed} {u out : List ℕ} (ran : AllRun k u answers out (run product v (map bytesOf (take n l))))
       (e : r ≡ listedOf a n k) where
     records-run : a ≡ 0 → ListAnswered r u out (listing w (recordBytes l) answers)
-    records-run q = list-run (recordBytes l) judged (subst (AllRun k u answers out) (all-run q) ran) q
+    records-run q = list-run false (recordBytes l) judged (subst (AllRun k u answers out) (all-run q) ran) q
         (e ∙ ap (λ m. listedOf a m k) (all-turns q))
 
     records-refused : (a ≡ 0 → ⊥) → ListAnswered r u out (listing w (recordBytes l) answers)
@@ -75,7 +77,7 @@ module _ (w : List ℕ) (l : List Ticket) (answers : List ℕ) {a n : ℕ} {v : 
         let none : AllRun k u answers out (record { numbers = []; counts = []; table = v }) =
         subst (AllRun k u answers out) (none-run q) ran in
         let nothing : r ≡ listedOf a 0 0 = e ∙ (ap (λ m. listedOf a m k) (no-turns q) ∙ ap (listedOf a 0) (none .accepted)) in
-        rw (none .words, none .numbers) (list-refused (recordBytes l) judged q nothing)
+        rw (none .words, none .numbers) (list-refused false (recordBytes l) judged q nothing)
 
     pub records-done : ListAnswered r u out (listing w (recordBytes l) answers)
     records-done = elim (ℕ-discrete a 0) [ yes q ↦ records-run q | no q ↦ records-refused q ]

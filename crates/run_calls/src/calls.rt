@@ -6,7 +6,9 @@ use consistency::first_broken;
 use image::body;
 use image::write;
 use list::apply_list;
+use list::apply_operator_list;
 use list_form::Listed;
+use operators::apply_operator;
 use script::bytes_in;
 use script::print_answer;
 use script::print_bytes;
@@ -17,6 +19,7 @@ use singles::apply_each;
 use table::INCONSISTENT;
 use table::Word;
 use table_calls::lookup;
+use ticket::Applied;
 use ticket::apply;
 
 // What stands in lent bytes before a call.
@@ -43,11 +46,21 @@ pub fn print_lookup(table: &[Word], given: &[u8]) {
     print_test(looked.present);
 }
 
-pub fn print_applied(table: &mut [Word], given: &[u8]) {
-    let applied = apply(table, given);
+// What a ticket answered.
+fn print_applied(applied: Applied) {
     print_answer(applied.answer);
     print_number(applied.added as usize);
     print_number(applied.removed as usize);
+}
+
+pub fn print_apply(table: &mut [Word], given: &[u8]) {
+    let applied = apply(table, given);
+    print_applied(applied);
+}
+
+pub fn print_operator(table: &mut [Word], given: &[u8]) {
+    let applied = apply_operator(table, given);
+    print_applied(applied);
 }
 
 // What a list answered, and the answer bytes.
@@ -60,6 +73,11 @@ pub fn print_listed(listed: Listed, answers: &[u8]) {
 
 pub fn print_list(table: &mut [Word], given: &[u8], answers: &mut [u8]) {
     let listed = apply_list(table, given, answers);
+    print_listed(listed, answers);
+}
+
+pub fn print_operators(table: &mut [Word], given: &[u8], answers: &mut [u8]) {
+    let listed = apply_operator_list(table, given, answers);
     print_listed(listed, answers);
 }
 

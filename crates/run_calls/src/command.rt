@@ -1,11 +1,13 @@
 // The commands: what each does to the table and to the copy.
 use crate::calls::UNTOUCHED;
-use crate::calls::print_applied;
+use crate::calls::print_apply;
 use crate::calls::print_body;
 use crate::calls::print_check;
 use crate::calls::print_each;
 use crate::calls::print_list;
 use crate::calls::print_lookup;
+use crate::calls::print_operator;
+use crate::calls::print_operators;
 use crate::calls::print_write;
 use crate::damage::print_damage;
 use crate::tickets::print_records;
@@ -23,39 +25,43 @@ use script::words_in;
 use table::Word;
 use table_calls::fresh;
 
-// The names by their places among all names. The first six have a number.
+// The names by their places among all names. The first seven have a number.
 const TABLE: usize = 0;
 
 const LIST: usize = 1;
 
 const EACH: usize = 2;
 
-const WRITE: usize = 4;
+const OPERATORS: usize = 4;
 
-const BODY: usize = 5;
+const WRITE: usize = 5;
 
-const FRESH: usize = 6;
+const BODY: usize = 6;
 
-const CHECK: usize = 7;
+const FRESH: usize = 7;
 
-const LOOKUP: usize = 8;
+const CHECK: usize = 8;
 
-const APPLY: usize = 9;
+const LOOKUP: usize = 9;
 
-const READ: usize = 10;
+const APPLY: usize = 10;
 
-const FACTS: usize = 11;
+const OPERATOR: usize = 11;
 
-const WORDS: usize = 12;
+const READ: usize = 12;
 
-const KEEP: usize = 13;
+const FACTS: usize = 13;
 
-const BACK: usize = 14;
+const WORDS: usize = 14;
 
-const SAME: usize = 15;
+const KEEP: usize = 15;
+
+const BACK: usize = 16;
+
+const SAME: usize = 17;
 
 // How many there are.
-pub const NAMES: usize = 17;
+pub const NAMES: usize = 19;
 
 // The answer bytes that can be lent.
 const ANSWERS: usize = 2048;
@@ -73,6 +79,7 @@ fn run_list(name: usize, given: &[u8], table: &mut [Word], answers: &mut [u8]) {
     match name {
         LIST => print_list(table, given, answers),
         EACH => print_each(table, given, answers),
+        OPERATORS => print_operators(table, given, answers),
         _ => print_records(table, given, answers),
     }
 }
@@ -109,7 +116,8 @@ fn run_on_table(name: usize, given: &[u8], table: &mut [Word]) {
         FRESH => print_answer(fresh(table)),
         CHECK => print_check(table),
         LOOKUP => print_lookup(table, given),
-        APPLY => print_applied(table, given),
+        APPLY => print_apply(table, given),
+        OPERATOR => print_operator(table, given),
         READ => print_answer(read(table, given)),
         FACTS => print_count(table),
         _ => print_words(table),

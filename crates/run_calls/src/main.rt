@@ -16,9 +16,11 @@
 //     check                  the answer, and for 3 the first rule broken: of Fig. 3, then of H1 to H4, E1, E2
 //     lookup WORD            the answer, and 1 if the word is present, else 0
 //     apply BYTES            the answer to the ticket, facts added, facts removed
+//     operator BYTES         the same by `apply_operator`
 //     list NUMBER BYTES      by `apply_list` with NUMBER answer bytes, at most 2,048, each ff before the
 //                            call: the answer, tickets accepted, tickets refused, the answer bytes
 //     each NUMBER BYTES      the same by `apply_each`
+//     operators NUMBER BYTES the same by `apply_operator_list`
 //     records NUMBER BYTES   the same by `apply_records`, for five tickets; a question mark for other bytes
 //     write NUMBER           into NUMBER bytes, at most 8,200, each ff before the call: the answer, the
 //                            length, all the bytes

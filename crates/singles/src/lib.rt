@@ -2,10 +2,12 @@
 //
 // The public call is `apply_each`. It has no `requires`: it says, for all inputs, its answer, both counts,
 // and every word and byte afterwards; they are those of `list::apply_list`. The crate assumes nothing.
+ghost use mathlib.Core.Bool.{false};
 ghost use Prim.Native.Nat.{_≤_};
 ghost use lib.ListN.{length};
 ghost use Rattle.rdfs.specs.Numbers.{product, recordLength};
-ghost use Rattle.rdfs.specs.Register.{cut, register};
+ghost use Rattle.rdfs.specs.Register.{cut};
+ghost use Rattle.rdfs.specs.Operators.{registerAs};
 ghost use Rattle.list_form.specs.Listing.{listing, ListAnswered};
 ghost use Rattle.list_form.specs.Loops.{AllRun};
 use list_form::Listed;
@@ -22,7 +24,7 @@ use ticket::apply;
 fn run_each(table: &mut [Word], bytes: &[u8], answers: &mut [u8]) -> usize
     requires room { ⌜ length (cut recordLength (now bytes)) ≤ length (now answers) ⌝ }
     ensures answer { λ r. ⌜ AllRun r (now (table .exit)) (now (answers .entry)) (now (answers .exit))
-        (register product (now (table .entry)) (now (bytes .entry))) ⌝ }
+        (registerAs false product (now (table .entry)) (now (bytes .entry))) ⌝ }
 {
     let mut from = 0;
     let mut place = 0;

@@ -22,6 +22,7 @@ pub use refusals::FEW_ANSWERS;
 pub use refusals::GUARDED;
 pub use refusals::INCONSISTENT;
 pub use refusals::MALFORMED;
+pub use refusals::NOT_FOR_OPERATORS;
 pub use refusals::OUTSIDE_PROFILE;
 pub use refusals::SHORT_OUTPUT;
 pub use refusals::TOO_MANY;

@@ -1,5 +1,5 @@
 // The refusals, each by its number: the only place of these numbers in code. docs/REFUSALS.md says who can
-// cause each and which calls give it; the definition of the same name says when. 0 is no refusal; 17 to 20
+// cause each and which calls give it; the definition of the same name says when. 0 is no refusal; 18 to 20
 // are free.
 
 // 1: a table of no words or above the most.
@@ -34,3 +34,5 @@ pub const FEW_ANSWERS: u8 = 14;
 pub const OUTSIDE_PROFILE: u8 = 15;
 // 16: insertion of CI with an id that is no class of the table.
 pub const UNKNOWN_CLASS: u8 = 16;
+// 17: an operator's ticket of a kind that is not for operators.
+pub const NOT_FOR_OPERATORS: u8 = 17;

@@ -13,7 +13,7 @@ use Rattle.rdfs.specs.Insertion.{insertion}
 use Rattle.rdfs.specs.Deletion.{deletion}
 use Rattle.rdfs.specs.Tickets.{decoded, inserts, deletes, asked, named}
 use Rattle.rdfs.specs.Lookups.{lookupClash}
-use Rattle.rdfs.specs.Register.{step, Table}
+use Rattle.rdfs.specs.Register.{refusedWith, step, Table}
 use Rattle.rdfs.specs.Promises.{Formed, Known, unchanged}
 use Rattle.rdfs.proofs.lists.Sorted.{sort-ascending}
 use Rattle.rdfs.proofs.words.LaidOut.{laid-ascending, laid-words, laid-fits}
@@ -23,7 +23,7 @@ use Rattle.rdfs.proofs.tickets.Steps.{table-sane, step-number, accepted-leaves}
 use Rattle.rdfs.proofs.insertion.InsertionSteps.{new-is, insertion-grows}
 use Rattle.rdfs.proofs.deletion.DeletionSteps as steps
 use Rattle.rdfs.proofs.Theorems.{product-sound}
-use Rattle.ticket.specs.Answered.{Stepped, refusedWith}
+use Rattle.ticket.specs.Answered.{Stepped}
 use Rattle.ticket.specs.declared.step.Step.the-variants.{Facts, Refused}
 use Rattle.ticket.proofs.RefusedSteps.{clash-free}
 

@@ -7,14 +7,14 @@ use lib.Dec.{eqb→eq}
 use lib.ListN.{length}
 use Rattle.rdfs.specs.Numbers.{product}
 use Rattle.rdfs.specs.Words.{filled}
-use Rattle.rdfs.specs.Register.{Answer, Table}
+use Rattle.rdfs.specs.Register.{Answer, refusedWith, Table}
 use Rattle.rdfs.specs.Tickets.{ticketOf}
 use Rattle.rdfs.proofs.tickets.TicketTests.{known-operation}
 use Rattle.ticket_form.specs.TicketForm.{sense, bytesOf, recordOf, formRefusal}
 use Rattle.ticket_form.specs.declared.fields.Ticket.{Ticket}
 use Rattle.ticket_form.proofs.Formed.{form-passes}
 use Rattle.ticket.specs.Ready.{Ready}
-use Rattle.ticket.specs.Answered.{Answered, Valued, Stepped, refusedAnswer, refusedWith}
+use Rattle.ticket.specs.Answered.{Answered, Valued, Stepped, refusedAnswer}
 use Rattle.ticket.specs.declared.answer.Applied.{Applied}
 use Rattle.ticket.specs.declared.step.Step.{Step}
 

@@ -1,10 +1,10 @@
 -- RefusedSteps, AcceptedSteps: the register's step, refused and accepted, for Ways and the calls. Ways: each way through step.
 -- CallAnswers: for the calls. CallTheorems: demands 1 and 2 about the call itself; ExclusiveCallTheorems: exclusive properties.
 -- ApplyTied: the contract in the source is their premise.
-mod RefusedSteps
+pub mod RefusedSteps
 mod AcceptedSteps
 mod Ways
-mod CallAnswers
+pub mod CallAnswers
 pub mod CallTheorems
 pub mod ExclusiveCallTheorems
 pub mod ApplyTied

@@ -14,7 +14,7 @@ use Rattle.rdfs.specs.Insertion.{insertion}
 use Rattle.rdfs.specs.Tickets.{decoded, inserts, asked, badLength, unknownProperty, unknownClass, clashing}
 use Rattle.rdfs.specs.Lookups.{lookupClash}
 use Rattle.rdfs.specs.Refusals.{formTests, here, later, tableRefusal}
-use Rattle.rdfs.specs.Register.{answer, step, Table}
+use Rattle.rdfs.specs.Register.{refusedWith, answer, step, Table}
 use Rattle.rdfs.specs.Promises.{Formed, Known}
 use Rattle.rdfs.proofs.lists.Tests.{and-both, both-and}
 use Rattle.rdfs.proofs.tickets.TicketTests.{known-kind, known-provided}
@@ -25,7 +25,6 @@ use Rattle.rdfs.proofs.insertion.InsertionSteps.{new-is}
 use Rattle.rdfs.proofs.Theorems.{product-sound, lookup-clash-is-clash}
 use Rattle.ticket_form.specs.TicketForm.{formRefusal}
 use Rattle.ticket_form.proofs.Formed.{form-passes}
-use Rattle.ticket.specs.Answered.{refusedWith}
 
 answer-refused : (n : ℕ) (w ws : List ℕ) → (n ≡ 0 → ⊥) → answer n w ws ≡ refusedWith n w
 answer-refused zero w ws d = absurd (d refl)

@@ -52,9 +52,6 @@ pub record Stepped (count : ℕ) (stepped : Step) (after : List ℕ) (answer : A
   pub words : after ≡ answer .table
   pub fits : Fits stepped
 
--- The answer to a refused ticket, the call's and the register's.
+-- The answer to a refused ticket.
 abbrev pub refusedAnswer : ℕ → Applied
 refusedAnswer number = record { answer = number; added = 0; removed = 0 }
-
-abbrev pub refusedWith : ℕ → List ℕ → Answer
-refusedWith number words = record { number = number; added = 0; removed = 0; table = words }

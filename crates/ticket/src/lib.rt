@@ -2,8 +2,9 @@
 //
 // The public call is `apply`. It has no `requires`: it says, for all words of a table and all bytes of a
 // ticket, the answer, both counts and every word afterwards; they are those of the plain register. The other
-// functions serve the crates above: `apply_checked` is the same on a table known to be consistent, and
-// `apply_ticket` on a ticket by its fields. The crate assumes nothing.
+// functions serve the crates above: `apply_checked` is the same on a table known to be consistent,
+// `apply_ticket` on a ticket by its fields, and `refused` is the answer by a refusal. The crate assumes
+// nothing.
 //
 // A ticket that is refused before 11, or that changes nothing, costs a few lookups: no copy and no pass over
 // the table, but for the check in `apply`. An insertion that puts something in first saves the words of the
@@ -13,7 +14,6 @@ ghost use Rattle.rdfs.specs.Register.{step, Table};
 ghost use Rattle.ticket_form.specs.TicketForm.{bytesOf};
 ghost use Rattle.ticket.specs.Answered.{Answered};
 use crate::answer::answer_of;
-use crate::answer::refused;
 use crate::step::run_deletion;
 use crate::step::run_insertion;
 use consistency::check;
@@ -31,6 +31,7 @@ mod answer;
 mod step;
 
 pub use answer::Applied;
+pub use answer::refused;
 
 // One ticket on a table known to be consistent.
 pub fn apply_ticket(table: &mut [Word], ticket: Ticket) -> Applied

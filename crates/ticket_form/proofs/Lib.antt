@@ -1,4 +1,4 @@
--- FormTests: tests of a ticket's bytes, for form, ids and has_asked. Formed: what is known of a ticket past
+-- FormTests: tests of a ticket's bytes, for form, ids and has_asked, and the crates above. Formed: what is known of a ticket past
 -- refusal 8, for state and the crate above.
-mod FormTests
+pub mod FormTests
 pub mod Formed

@@ -10,9 +10,10 @@ use ghost.Atoms.{Atoms}
 use contract.Monad.{Fun}
 use denote.Ref.{now}
 use Rattle.table.proofs.Promising.{promising}
-use Rattle.vimelosa.specs.Host.{HostPromise}
+use Rattle.host_ticket.specs.HostTicket.{HostPromise, OperatorHostPromise}
 use Rattle.vimelosa.specs.HostCheck.{HostCheckPromise}
 use Rattle.vimelosa.proofs.vimelosa_apply as host
+use Rattle.vimelosa.proofs.operator_call.vimelosa_apply_operator as operator
 use Rattle.vimelosa.proofs.check_call.vimelosa_check as check
 
 module _ {M : Type 1} (𝓤 : URA M) (H : Heap 𝓤) (A : Atoms 𝓤) (mem : Memory → SProp 𝓤) (run : Routine → Fun 𝓤) where
@@ -20,6 +21,11 @@ module _ {M : Type 1} (𝓤 : URA M) (H : Heap 𝓤) (A : Atoms 𝓤) (mem : Mem
       ≡ promising 𝓤 host.ended
       (λ κs a r e. HostPromise (now (a .0)) (now (a .1 .0)) (now (a .1 .1 .0)) r (now (e .1 .1 .0)))
   host-tied = refl
+
+  pub operator-host-tied : operator.clauses 𝓤 H A mem run
+      ≡ promising 𝓤 operator.ended
+      (λ κs a r e. OperatorHostPromise (now (a .0)) (now (a .1 .0)) (now (a .1 .1 .0)) r (now (e .1 .1 .0)))
+  operator-host-tied = refl
 
   pub check-tied : check.clauses 𝓤 H A mem run
       ≡ promising 𝓤 check.ended (λ κs a r e. HostCheckPromise (now (a .0)) r)

@@ -1,6 +1,7 @@
 // A list of tickets on an image.
 ghost use Rattle.host_list.specs.HostList.{HostListPromise};
 use host_list::run_on_image;
+use operators::ANYONE;
 
 // Reads the image into 2,048 words, runs the tickets on them in turn, writes each ticket's number to its
 // answer byte and the image of what they left to the output. Answers the number, the tickets accepted, the
@@ -16,5 +17,5 @@ pub extern "C" fn vimelosa_apply_list(
     ensures promise { λ r. ⌜ HostListPromise (now (image .entry)) (now (tickets .entry))
         (now (answers .entry)) (now (output .entry)) r (now (answers .exit)) (now (output .exit)) ⌝ }
 {
-    run_on_image(image, tickets, answers, output)
+    run_on_image(ANYONE, image, tickets, answers, output)
 }

@@ -1,5 +1,5 @@
-//! The list call, 1,000 tickets across the C interface at once: beside as many single calls, and as a process
-//! that runs a long list.
+//! The list call, 1,000 tickets across the C interface at once: beside as many single calls, beside the
+//! operators' list call, and as a process that runs a long list.
 
 use crate::candidates::{ListCall, LIST_CALLS, NAMES};
 use crate::clock::{interleaved, repeated, shares, Readings, Run};
@@ -9,7 +9,7 @@ use crate::settings::Settings;
 use crate::tables::Line;
 use std::io::{Read, Result, Write};
 use std::mem::swap;
-use vimelosa_host::{call_raw, LONGEST_IMAGE};
+use vimelosa_host::{call_list_raw, call_operator_list_raw, call_raw, LONGEST_IMAGE};
 
 /// The tickets of one call.
 const TICKETS: usize = 1000;
@@ -40,14 +40,24 @@ fn timed_calls() -> Vec<ListCall> {
 pub fn measure(settings: &Settings, lists: &[(&str, Vec<u8>)]) -> Vec<Measured> {
     let lists: Vec<(&str, &[u8])> =
         lists.iter().map(|(name, list)| (*name, &list[..CALLS * LIST_LENGTH])).collect();
-    let calls = timed_calls();
-    let left: Vec<Left> = lists.iter().map(|(_, list)| compare(&calls, list)).collect();
-    let run = |list, call: &ListCall| repeated(settings.slice, called(*call, list));
+    let (calls, fresh) = (timed_calls(), Sorted::fresh().image());
+    let left: Vec<Left> = lists.iter().map(|(_, list)| compare(&calls, &fresh, list)).collect();
+    let run = |list, call: &ListCall| repeated(settings.slice, called(*call, &fresh, list));
     let each = lists.iter().flat_map(|(_, list)| calls.iter().map(move |call| run(list, call)));
     let readings = interleaved(settings.processes, &mut each.collect::<Vec<Run>>());
     let shares = shares(&readings, CALLS * TICKETS);
     let own = left.iter().zip(shares.chunks(calls.len()));
     lists.iter().zip(own).map(|((name, _), (left, own))| Measured::of(name, left, own)).collect()
+}
+
+/// Operators' tickets on an image by the operators' list call and by the plain one, in nanoseconds a ticket.
+pub fn measure_operators(settings: &Settings, (image, tickets): &(Vec<u8>, Vec<u8>)) -> Line {
+    let (calls, tickets) =
+        ([call_operator_list_raw as ListCall, call_list_raw], &tickets[..CALLS * LIST_LENGTH]);
+    assert_eq!(compare(&calls, image, tickets).accepted, CALLS * TICKETS, "a ticket is refused");
+    let mut runs = calls.map(|call| repeated(settings.slice, called(call, image, tickets)));
+    let readings = interleaved(settings.processes, &mut runs);
+    Line::of("shifts".to_string(), &shares(&readings, CALLS * TICKETS))
 }
 
 impl Measured {
@@ -64,15 +74,16 @@ impl Measured {
     }
 }
 
-/// The image that tickets leave of the fresh one, and how many were accepted.
+/// The image that tickets leave of another, and how many were accepted.
 struct Left {
     image: Vec<u8>,
     accepted: usize,
 }
 
-/// What all calls leave, if they give the same number, answers and output each time and write no other byte.
-fn compare(calls: &[ListCall], tickets: &[u8]) -> Left {
-    let mut left = Left { image: Sorted::fresh().image(), accepted: 0 };
+/// What all calls leave of an image, if they give the same number, answers and output each time and write no
+/// other byte.
+fn compare(calls: &[ListCall], image: &[u8], tickets: &[u8]) -> Left {
+    let mut left = Left { image: image.to_vec(), accepted: 0 };
     for list in tickets.chunks(LIST_LENGTH) {
         let answer = |call: &ListCall| {
             let (mut answers, mut output) = ([0x5a; TICKETS + 1], vec![0x5a; LONGEST_IMAGE]);
@@ -94,15 +105,15 @@ fn image_length(number: u64) -> usize {
     (number >> 48) as usize
 }
 
-fn called<'a>(call: ListCall, tickets: &'a [u8]) -> impl FnMut() -> Vec<u8> + 'a {
+fn called<'a>(call: ListCall, image: &'a [u8], tickets: &'a [u8]) -> impl FnMut() -> Vec<u8> + 'a {
     let mut answers = [0; CALLS * TICKETS];
-    move || run_in_lists(call, tickets, &mut answers)
+    move || run_in_lists(call, image, tickets, &mut answers)
 }
 
-/// Runs tickets, 1,000 to a call, from the fresh image on and each call on the image that the one before put
-/// out. Writes the answers of all and gives the last image.
-fn run_in_lists(call: ListCall, tickets: &[u8], answers: &mut [u8]) -> Vec<u8> {
-    let (mut held, mut next) = (Sorted::fresh().image(), vec![0; LONGEST_IMAGE]);
+/// Runs tickets, 1,000 to a call, from an image on and each call on the image that the one before put out.
+/// Writes the answers of all and gives the last image.
+fn run_in_lists(call: ListCall, image: &[u8], tickets: &[u8], answers: &mut [u8]) -> Vec<u8> {
+    let (mut held, mut next) = (image.to_vec(), vec![0; LONGEST_IMAGE]);
     let mut length = held.len();
     held.resize(LONGEST_IMAGE, 0);
     for (list, answers) in tickets.chunks(LIST_LENGTH).zip(answers.chunks_mut(TICKETS)) {
@@ -143,7 +154,7 @@ pub fn run(call: ListCall, mut input: impl Read, mut output: impl Write) -> Resu
     let mut tickets = Vec::new();
     input.read_to_end(&mut tickets)?;
     let mut answers = vec![0; tickets.chunks(TICKET_LENGTH).len()];
-    let image = run_in_lists(call, &tickets, &mut answers);
+    let image = run_in_lists(call, &Sorted::fresh().image(), &tickets, &mut answers);
     output.write_all(&answers)?;
     output.write_all(&image)
 }

@@ -47,6 +47,23 @@ fn plants_with(count: usize, deletions: fn(&[Bytes]) -> Vec<Bytes>) -> Vec<u8> {
     list
 }
 
+/// The image of a plant's class tree and properties, and so many operators' tickets on it: the plant's
+/// members, values and literals in any order, which fill a table of 2,048 words, then their deletions, and
+/// again.
+pub fn shifts(count: usize) -> (Vec<u8>, Vec<u8>) {
+    let is_operators = |ticket: &Bytes| [LITERAL, MEMBER, VALUE].contains(&ticket[1]);
+    let (mut own, others): (Vec<Bytes>, Vec<Bytes>) =
+        Plant::draw(1, MOST_WORDS).tickets.into_iter().partition(is_operators);
+    let (mut table, mut random, mut list) = (Sorted::fresh(), Sequence::of_seed(1), Vec::new());
+    assert!(others.iter().all(|ticket| table.apply(ticket).number == 0), "a ticket is refused");
+    while list.len() < 5 * count {
+        random.shuffle(&mut own);
+        list.extend([own.clone(), taken_down(&own), cleared(&own)].concat().concat());
+    }
+    list.truncate(5 * count);
+    (table.image(), list)
+}
+
 /// The same tickets, a member's held back until its class stands.
 fn in_order(tickets: &[Bytes]) -> Vec<Bytes> {
     let (mut table, mut ordered, mut waiting) = (Sorted::fresh(), Vec::new(), Vec::new());

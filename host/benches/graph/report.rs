@@ -47,6 +47,12 @@ const SINGLE_CALLS: &str =
     "The same tickets by single calls, 1,000 in place of each list call, each on the image that the one \
      before put out. Time for one ticket:";
 
+/// Operators' tickets through their list call.
+const OPERATORS: &str =
+    "Ten calls of 1,000 operators' tickets each, on the image of a plant's class tree and properties: the \
+     plant's members, values and literals in any order, which fill a table of 2,048 words, then their \
+     deletions, and again. By the operators' list call and by the plain one. Time for one ticket:";
+
 /// The list call on the whole lists.
 const WHOLE_LISTS: &str =
     "The whole lists through the list call, 1,000 tickets to a call as above, beside program one: each as a \
@@ -80,6 +86,7 @@ pub fn measure(settings: &Settings) -> Report {
     let programs = programs::measure(settings, &lists);
     text += &programs_part(&programs);
     text += &list_calls_part(&list_calls::measure(settings, &lists[..lists.len() - 1]), &programs);
+    text += &operators_part(settings);
     text += &triples_report::part(settings, &subjects[1..]);
     text += &sqlite_part(settings);
     Report { text, picture: picture("One host call, mean of five tickets", &curves) }
@@ -201,6 +208,16 @@ fn list_calls_part(measured: &[list_calls::Measured], programs: &[programs::Meas
         table_of("list", &["single calls", "list call"], Unit::Nanoseconds, &single_calls),
         filled(WHOLE_LISTS),
         table_of("list", &["list call", "program one"], Unit::Nanoseconds, &whole_lists),
+    )
+}
+
+fn operators_part(settings: &Settings) -> String {
+    let line = list_calls::measure_operators(settings, &lists::shifts(10_000));
+    let names = ["operators' list call", "list call"];
+    format!(
+        "\n{}\n{}",
+        filled(OPERATORS),
+        table_of("list", &names, Unit::Nanoseconds, slice::from_ref(&line))
     )
 }
 

@@ -21,7 +21,8 @@ fn after(refusal: &Refusal) -> Option<Refusal> {
         Refusal::ShortOutput { .. } => Refusal::FewAnswers,
         Refusal::FewAnswers => Refusal::OutsideProfile,
         Refusal::OutsideProfile => Refusal::UnknownClass,
-        Refusal::UnknownClass => return None,
+        Refusal::UnknownClass => Refusal::NotForOperators,
+        Refusal::NotForOperators => return None,
     };
     Some(next)
 }

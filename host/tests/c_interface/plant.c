@@ -1,6 +1,6 @@
-/* Uses the header as a caller in C would: a fresh image, one ticket, a list, a property made exclusive, the
- * check, texts written and read, refusals, an old image, and null where a buffer is empty. Each line that it
- * prints is a call and what it gave. */
+/* Uses the header as a caller in C would: a fresh image, one ticket, a list, a property made exclusive,
+ * operators' tickets, the check, texts written and read, refusals, an old image, and null where a buffer is
+ * empty. Each line that it prints is a call and what it gave. */
 
 #include "vimelosa.h"
 
@@ -28,6 +28,16 @@ static const uint8_t exclusive_tickets[] = {
     VIMELOSA_INSERT, VIMELOSA_VALUE, 20, 30, 5,
     VIMELOSA_INSERT, VIMELOSA_VALUE, 21, 30, 5, /* which clashes */
 };
+
+/* Of an operator: a device, a class, a member of it, and one that is guarded. */
+static const uint8_t operator_tickets[] = {
+    VIMELOSA_INSERT, VIMELOSA_INDIVIDUAL, 4, 0, 0,
+    VIMELOSA_INSERT, VIMELOSA_CLASS, 2, 0, 0, /* which is not for operators */
+    VIMELOSA_INSERT, VIMELOSA_MEMBER, 4, 2, 0, /* whose class is not there */
+    VIMELOSA_DELETE, VIMELOSA_MEMBER, 4, 0, 0,
+};
+
+enum { OPERATOR_TICKETS = 4 };
 
 /* The facts of an image that calls write start here. */
 enum { BODIES = 68 };
@@ -178,6 +188,43 @@ static void exclusive_calls(void) {
     print_check("check of an exclusive individual", vimelosa_check(plant, length));
 }
 
+static void operator_calls(void) {
+    const uint8_t *class_ticket = operator_tickets + VIMELOSA_TICKET;
+    lend();
+    uint64_t result = vimelosa_apply_operator(fresh, sizeof fresh, operator_tickets, VIMELOSA_TICKET,
+                                              output, sizeof output);
+    print_apply("operator inserts individual 4", result);
+    lend();
+    result = vimelosa_apply_operator(fresh, sizeof fresh, class_ticket, VIMELOSA_TICKET, output,
+                                     sizeof output);
+    printf("a class is not for operators: %d\n", vimelosa_answer(result) == VIMELOSA_NOT_FOR_OPERATORS);
+    print_apply("operator inserts class 2", result);
+    print_apply("operator's class, no output",
+                vimelosa_apply_operator(fresh, sizeof fresh, class_ticket, VIMELOSA_TICKET, NULL, 0));
+    print_apply("operator's short output",
+                vimelosa_apply_operator(fresh, sizeof fresh, operator_tickets, VIMELOSA_TICKET, output, 71));
+    print_apply("operator, no image", vimelosa_apply_operator(NULL, 0, NULL, 0, NULL, 0));
+}
+
+static void operator_list_calls(void) {
+    lend();
+    uint64_t result = vimelosa_apply_operator_list(fresh, sizeof fresh, operator_tickets,
+                                                   sizeof operator_tickets, answers, OPERATOR_TICKETS - 1,
+                                                   output, sizeof output);
+    print_list("operators' list, few answers", result);
+    result = vimelosa_apply_operator_list(fresh, sizeof fresh, operator_tickets, sizeof operator_tickets,
+                                          answers, sizeof answers, output, 71);
+    print_list("operators' list, short output", result);
+    result = vimelosa_apply_operator_list(fresh, sizeof fresh, operator_tickets, sizeof operator_tickets,
+                                          answers, sizeof answers, output, sizeof output);
+    print_list("operators' list", result);
+    print_bytes("answers", answers, OPERATOR_TICKETS);
+    print_bytes("bodies", output + BODIES, vimelosa_length(result) - BODIES);
+    lend();
+    print_list("operators' list, all empty",
+               vimelosa_apply_operator_list(NULL, 0, NULL, 0, NULL, 0, NULL, 0));
+}
+
 static void old_images(void) {
     lend();
     print_check("check of an old image", vimelosa_check(old, sizeof old));
@@ -239,6 +286,8 @@ int main(void) {
     list_calls();
     check_calls();
     exclusive_calls();
+    operator_calls();
+    operator_list_calls();
     old_images();
     empty_buffers();
     texts_written();

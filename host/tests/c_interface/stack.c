@@ -1,7 +1,8 @@
 /* How many bytes of stack each call takes. A call runs on a thread whose stack is painted memory of this
  * program; the bytes that lose their paint are counted, less those that a thread takes which does nothing.
  * The graph is two chains of classes; a link of two properties joins them by their domains, so that side
- * effects nest deep. Each line that it prints is a call, its answer and its bytes. */
+ * effects nest deep. For operators it is one chain of classes, which a value climbs from the domain of its
+ * property. Each line that it prints is a call, its answer and its bytes. */
 
 #define _POSIX_C_SOURCE 200809L
 
@@ -14,8 +15,8 @@
 
 enum { STACK = 64 * 1024, PAGE = 4096, PAINT = 0xa5 };
 
-/* The classes of the chains have ids from FIRST on. */
-enum { FIRST = 20, LOWER = 40, UPPER = 44 };
+/* The classes of the chains have ids from FIRST on; LONGEST is that of the operators' chain. */
+enum { FIRST = 20, LOWER = 40, UPPER = 44, LONGEST = 61 };
 
 enum { LOW_PROPERTY = 150, HIGH_PROPERTY = 151, INDIVIDUAL = 200 };
 
@@ -23,6 +24,12 @@ enum { LOW_PROPERTY = 150, HIGH_PROPERTY = 151, INDIVIDUAL = 200 };
 static const uint8_t tickets[] = {
     VIMELOSA_INSERT, VIMELOSA_SUBPROPERTY, LOW_PROPERTY, HIGH_PROPERTY, 0,
     VIMELOSA_INSERT, VIMELOSA_SUBPROPERTY, LOW_PROPERTY, HIGH_PROPERTY, 0,
+};
+
+/* The same of operators' calls. */
+static const uint8_t operator_tickets[] = {
+    VIMELOSA_INSERT, VIMELOSA_VALUE, INDIVIDUAL, INDIVIDUAL + 1, LOW_PROPERTY,
+    VIMELOSA_INSERT, VIMELOSA_VALUE, INDIVIDUAL, INDIVIDUAL + 1, LOW_PROPERTY,
 };
 
 static uint8_t image[VIMELOSA_LONGEST_IMAGE];
@@ -48,23 +55,39 @@ static void insert(int kind, int a, int b) {
     memcpy(image, output, image_length);
 }
 
-/* Ids rise with the distance from where the chains will be joined, so that the nearest comes first. */
-static void make_chains(void) {
+static void begin(void) {
     static const uint8_t fresh[] = VIMELOSA_FRESH_IMAGE;
-    const int middle = FIRST + LOWER;
-    int id;
     memcpy(image, fresh, sizeof fresh);
     image_length = sizeof fresh;
-    for (id = FIRST; id + 1 < middle; id++) {
-        insert(VIMELOSA_SUBCLASS, id + 1, id);
-    }
-    for (id = middle; id + 1 < middle + UPPER; id++) {
+}
+
+/* Classes from an id up to another, each under the next. */
+static void make_chain(int from, int to) {
+    for (int id = from; id + 1 < to; id++) {
         insert(VIMELOSA_SUBCLASS, id, id + 1);
     }
+}
+
+/* Ids rise with the distance from where the chains will be joined, so that the nearest comes first. */
+static void make_chains(void) {
+    const int middle = FIRST + LOWER;
+    begin();
+    for (int id = FIRST; id + 1 < middle; id++) {
+        insert(VIMELOSA_SUBCLASS, id + 1, id);
+    }
+    make_chain(middle, middle + UPPER);
     insert(VIMELOSA_MEMBER, INDIVIDUAL, middle - 1);
     insert(VIMELOSA_PROPERTY, LOW_PROPERTY, FIRST);
     insert(VIMELOSA_PROPERTY, HIGH_PROPERTY, middle);
     insert(VIMELOSA_EXCLUSIVE, HIGH_PROPERTY, 0);
+}
+
+/* Ids rise along the chain. */
+static void make_operator_chain(void) {
+    begin();
+    make_chain(FIRST, FIRST + LONGEST);
+    insert(VIMELOSA_PROPERTY, LOW_PROPERTY, FIRST);
+    insert(VIMELOSA_EXCLUSIVE, LOW_PROPERTY, 0);
 }
 
 static void *nothing(void *unused) {
@@ -79,6 +102,18 @@ static void *apply(void *unused) {
 static void *apply_list(void *unused) {
     result = vimelosa_apply_list(image, image_length, tickets, sizeof tickets, answers, sizeof answers,
                                  output, sizeof output);
+    return unused;
+}
+
+static void *apply_operator(void *unused) {
+    result = vimelosa_apply_operator(image, image_length, operator_tickets, VIMELOSA_TICKET, output,
+                                     sizeof output);
+    return unused;
+}
+
+static void *apply_operator_list(void *unused) {
+    result = vimelosa_apply_operator_list(image, image_length, operator_tickets, sizeof operator_tickets,
+                                          answers, sizeof answers, output, sizeof output);
     return unused;
 }
 
@@ -130,6 +165,10 @@ int main(void) {
     make_chains();
     measure("vimelosa_apply", apply);
     measure("vimelosa_apply_list", apply_list);
+    make_operator_chain();
+    measure("vimelosa_apply_operator", apply_operator);
+    measure("vimelosa_apply_operator_list", apply_operator_list);
+    make_chains();
     measure("vimelosa_check", check);
     measure("vimelosa_write_triples", write_triples);
     measure("vimelosa_read_triples", read_triples);

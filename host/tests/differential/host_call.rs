@@ -1,7 +1,7 @@
 //! The host call on images, tickets and outputs of every sort.
 
-use crate::generator::graphs::{image, some_image_of, ten_entries};
-use crate::generator::tickets::{any_ticket, holders, ticket, Ids, ALL_IDS, FEW, MANY, PLENTY};
+use crate::generator::graphs::ten_entries;
+use crate::generator::tickets::{any_ticket, holders, ALL_IDS};
 use crate::generator::{calls, graphs, rounds, Random};
 use crate::guarded::same_call;
 use vimelosa_host::LONGEST_IMAGE;
@@ -46,80 +46,36 @@ fn on_changed_contents() {
 #[test]
 fn on_full_tables() {
     let mut random = Random::for_test("host_call_on_full_tables");
-    let mut seen = [0; 17];
-    for round in 0..rounds(6) {
-        let full = image(&graphs::filled(&mut random, [2048, 2047, 2040][round % 3]));
-        let ids = Ids { deletions: 4, ..[MANY, PLENTY][round % 2] };
-        for _ in 0..60 {
-            let ticket = any_ticket(&mut random, &ids);
-            let (number, _) = same_call(&full, &ticket, LONGEST_IMAGE);
-            seen[usize::from(number as u16)] += 1;
-        }
-    }
-    assert!([0, 10, 11, 16].iter().all(|number| seen[*number] > 5), "{seen:?}");
+    let met = calls::on_full_tables(&mut random, rounds(6), any_ticket, same_call);
+    assert!([0, 10, 11, 16].iter().all(|number| met[*number] > 5), "{met:?}");
 }
 
 #[test]
 fn on_every_image_length() {
     let mut random = Random::for_test("host_call_on_every_image_length");
-    let graph = graphs::filled(&mut random, 200);
-    for whole in [image(&graph), ten_entries(&graph)] {
-        for length in 0..=whole.len() {
-            same_call(&whole[..length], &[1, 3, 77, 0, 0], LONGEST_IMAGE);
-        }
-    }
+    calls::on_every_image_length(&mut random, same_call);
 }
 
 #[test]
 fn on_every_ticket_length() {
     let mut random = Random::for_test("host_call_on_every_ticket_length");
-    let whole = image(&graphs::grown(&mut random, &MANY, 40, 2048));
-    for length in 0..40 {
-        let ticket = [1, 1, 2, 0, 0].repeat(8)[..length].to_vec();
-        same_call(&whole, &ticket, LONGEST_IMAGE);
-    }
+    calls::on_every_ticket_length(&mut random, [1, 1, 2, 0, 0], same_call);
 }
 
-/// Every length of the output up to some bytes more than the new image, for insertions and deletions.
 #[test]
 fn on_every_output_length() {
     let mut random = Random::for_test("host_call_on_every_output_length");
-    for round in 0..rounds(6) {
-        let whole = image(&graphs::grown(&mut random, &FEW, 20, 60));
-        let ticket = [[1, 3, 77, 0, 0], [2, 1, 3, 0, 0]][round % 2];
-        let (number, _) = same_call(&whole, &ticket, LONGEST_IMAGE);
-        let length = (number >> 48) as usize;
-        assert!(length > 68);
-        for short in 0..length {
-            assert_eq!(same_call(&whole, &ticket, short).0, 13);
-        }
-        for long in length..length + 4 {
-            assert_eq!(same_call(&whole, &ticket, long).0, number);
-        }
-    }
+    let tickets = [[1, 3, 77, 0, 0], [2, 1, 3, 0, 0]];
+    calls::on_every_output_length(&mut random, rounds(6), tickets, same_call);
 }
 
-/// One byte short for many graphs: the new image counts, not the old one, whichever form that has.
 #[test]
 fn with_the_output_one_byte_short() {
     let mut random = Random::for_test("host_call_one_byte_short");
-    for round in 0..rounds(150) {
-        let ids = Ids { deletions: 2, ..ALL_IDS[round % 4] };
-        let graph = graphs::grown(&mut random, &ids, 30, 2048);
-        let whole = some_image_of(&mut random, &graph);
-        let ticket = ticket(&mut random, &ids);
-        let (number, _) = same_call(&whole, &ticket, LONGEST_IMAGE);
-        let length = (number >> 48) as usize;
-        if length > 0 {
-            assert_eq!(same_call(&whole, &ticket, length - 1).0, 13);
-            assert_eq!(same_call(&whole, &ticket, length).0, number);
-        }
-    }
+    calls::with_the_output_one_byte_short(&mut random, rounds(150), any_ticket, same_call);
 }
 
 #[test]
 fn on_overlong_images() {
-    let whole = image(&graphs::overlong());
-    assert_eq!(same_call(&whole, &[1, 1, 2, 0, 0], LONGEST_IMAGE).0, 11);
-    assert_eq!(same_call(&whole[1..], &[1, 1, 2, 0, 0], LONGEST_IMAGE).0, 12);
+    calls::on_overlong_images(same_call);
 }

@@ -5,6 +5,7 @@
 mod check_call;
 #[path = "../generator/mod.rs"]
 mod generator;
+#[macro_use]
 mod guarded;
 mod guarded_triples;
 mod host_call;
@@ -12,6 +13,8 @@ mod host_call;
 mod independent;
 mod list_buffers;
 mod list_call;
+mod operator_call;
+mod operator_list_call;
 #[path = "../process/mod.rs"]
 mod process;
 mod program_one;

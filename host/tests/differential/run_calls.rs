@@ -2,12 +2,14 @@
 
 use crate::generator::damage::damaged;
 use crate::generator::graphs::{filled, grown, image, overfull, ten_entries};
+use crate::generator::operators::any_operator_ticket;
 use crate::generator::scripts::{hexadecimal, script, table_line, words_of};
 use crate::generator::tickets::{any_ticket, holders, ticket, Ids, ALL_IDS, FEW, PLENTY};
 use crate::generator::{rounds, Random};
 use crate::independent::script::run_script;
 use crate::process::Program;
-use crate::vector_files::{class_cases, exclusive_cases, image_cases, ImageCase};
+use crate::vector_files::{class_cases, exclusive_cases, image_cases, operator_cases};
+use crate::vector_files::{ImageCase, OperatorCase, TicketCase};
 use std::collections::BTreeSet;
 
 fn assert_same(program: &Program, script: &str) {
@@ -47,7 +49,9 @@ fn random_scripts_meet_every_answer() {
         ("check", &[0, 1, 2, 3]),
         ("lookup", &[0, 1, 2]),
         ("apply", &[0, 1, 2, 3, 4, 5, 6, 7, 8, 9, 10, 11, 16]),
+        ("operator", &[0, 1, 2, 3, 4, 5, 6, 7, 8, 9, 10, 11, 16, 17]),
         ("list", &[0, 1, 2, 3, 14]),
+        ("operators", &[0, 1, 2, 3, 14]),
         ("each", &[0, 1, 2, 3, 14]),
         ("records", &[0, 1, 2, 3, 14]),
         ("write", &[0, 1, 2, 3, 13]),
@@ -61,19 +65,50 @@ fn random_scripts_meet_every_answer() {
     assert!(["same 0", "same 1", "?"].iter().all(|line| met.contains(*line)));
 }
 
+/// A line for each ticket of a list, by the command of this name.
+fn ticket_lines(name: &str, list: &[u8]) -> String {
+    list.chunks(5).map(|ticket| format!("{name} {}\n", hexadecimal(ticket))).collect()
+}
+
+/// What is printed for the tickets of a case, each by the command of this name, and for the words after them.
+fn printed_for(name: &str, case: &TicketCase) -> String {
+    let answers: String = case.answers.iter().map(|[n, a, r]| format!("{name} {n} {a} {r}\n")).collect();
+    let words: String = case.left.iter().map(|word| format!(" {word:08x}")).collect();
+    format!("{answers}words{words}\n")
+}
+
 /// The cases of members and their classes, and of exclusive properties, on tables of their lengths.
 #[test]
 fn on_the_classes_and_exclusive_properties() {
     let program = Program::calls();
     for case in class_cases().into_iter().chain(exclusive_cases()) {
-        let tickets = case.list.chunks(5).map(|ticket| format!("apply {}\n", hexadecimal(ticket)));
         let table = format!("table {:04x} 00000000\nfresh\n", case.words);
-        let answers = case.answers.iter().map(|[n, a, r]| format!("apply {n} {a} {r}\n"));
-        let words: String = case.left.iter().map(|word| format!(" {word:08x}")).collect();
-        let script = table + &tickets.collect::<String>() + "words\n";
-        let printed = format!("table\nfresh 0\n{}words{words}\n", answers.collect::<String>());
+        let script = table + &ticket_lines("apply", &case.list) + "words\n";
+        let printed = format!("table\nfresh 0\n{}", printed_for("apply", &case));
         assert_eq!(program.output(script.as_bytes()), printed, "{}", case.name);
         assert_eq!(run_script(&script), printed, "{}", case.name);
+    }
+}
+
+/// The cases of operators' tickets on tables of their lengths, ticket by ticket and then as a list.
+#[test]
+fn on_the_operators_tickets() {
+    let program = Program::calls();
+    for OperatorCase { before, case } in operator_cases() {
+        let (plain, own) = (ticket_lines("apply", &before), ticket_lines("operator", &case.list));
+        let list = format!("operators {:04x} {}", case.answers.len(), hexadecimal(&case.list));
+        let start = format!("table {:04x} 00000000\nfresh\n{plain}", case.words);
+        let script = format!("{start}keep\n{own}words\nback\n{list}\nwords\n");
+        assert_same(&program, &script);
+
+        let singly = printed_for("operator", &case);
+        let (_, words) = singly.rsplit_once("words").expect("the words are printed last");
+        let accepted = case.answers.iter().filter(|answer| answer[0] == 0).count();
+        let numbers: String = case.answers.iter().map(|answer| format!(" {:02x}", answer[0])).collect();
+        let refused = case.answers.len() - accepted;
+        let listed = format!("operators 0 {accepted} {refused}{numbers}\nwords{words}");
+        let printed = program.output(script.as_bytes());
+        assert!(printed.ends_with(&format!("keep\n{singly}back\n{listed}")), "{}: {printed}", case.name);
     }
 }
 
@@ -119,8 +154,8 @@ fn on_the_image_cases() {
     }
 }
 
-/// Lists about exclusive properties on tables that they fill, by each of the three calls, and the check of
-/// what is left.
+/// Lists about exclusive properties on tables that they fill, by each of the calls, and the check of what is
+/// left. The operators' list is run on what the plain one leaves.
 #[test]
 fn on_exclusive_properties() {
     let program = Program::calls();
@@ -133,6 +168,8 @@ fn on_exclusive_properties() {
         let mut lines = vec![table_line(length, &words), "keep".to_string()];
         for name in ["list", "each"] {
             lines.push(format!("{name} 0040 {}", hexadecimal(&list)));
+            lines.extend(["words", "check"].map(String::from));
+            lines.push(format!("operators 0040 {}", hexadecimal(&holders(&mut random, &ids, 20))));
             lines.extend(["words", "check", "write 1000", "back"].map(String::from));
         }
         lines.extend(list.chunks(5).map(|ticket| format!("apply {}", hexadecimal(ticket))));
@@ -151,9 +188,11 @@ fn on_full_tables() {
         let words = words_of(&filled(&mut random, [2048, 2047, 2040][round % 3]));
         let mut lines = vec![table_line(2048, &words), "check".to_string(), "keep".to_string()];
         lines.extend((0..12).map(|_| format!("apply {}", hexadecimal(&any_ticket(&mut random, &ids)))));
+        let mut draw = || any_operator_ticket(&mut random, &ids);
+        lines.extend((0..12).map(|_| format!("operator {}", hexadecimal(&draw()))));
         lines.extend(["words", "write 2000", "back", "same"].map(String::from));
         let tickets: Vec<u8> = (0..5).flat_map(|_| ticket(&mut random, &ids)).collect();
-        for name in ["list", "each", "records"] {
+        for name in ["list", "each", "records", "operators"] {
             lines.extend([
                 "back".to_string(),
                 format!("{name} 0006 {}", hexadecimal(&tickets)),

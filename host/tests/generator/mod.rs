@@ -10,6 +10,7 @@ pub mod graphs;
 pub mod inside;
 pub mod lines;
 pub mod long_lists;
+pub mod operators;
 pub mod outside;
 pub mod scripts;
 pub mod tickets;

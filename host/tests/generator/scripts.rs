@@ -1,7 +1,9 @@
-//! Scripts for the program `run_calls`: tables good and bad, tickets, lists, images whole and damaged.
+//! Scripts for the program `run_calls`: tables good and bad, tickets and lists, plain and operators', images
+//! whole and damaged.
 
 use super::damage::damaged;
 use super::graphs::{disturbed, grown, marked, some_image_of};
+use super::operators::{any_operator_ticket, operator_list};
 use super::tickets::{any_ticket, bad_ticket, list, ticket, Ids};
 use super::Random;
 use crate::independent::graph::Graph;
@@ -68,14 +70,15 @@ fn spoil(random: &mut Random, words: &mut Vec<u32>) {
 }
 
 fn command(random: &mut Random, ids: &Ids) -> String {
-    match random.below(24) {
+    match random.below(28) {
         0..=6 => format!("apply {}", hexadecimal(&any_ticket(random, ids))),
-        7 | 8 => list_line(random, ids),
-        9..=11 => format!("read {}", hexadecimal(&some_image(random, ids))),
-        12 => format!("write {:04x}", random.pick(&[0, 62, 68, 69, 80, 100, 150, 250, 700])),
-        13 | 14 => format!("body {:04x} {}", random.below(14), hexadecimal(&some_image(random, ids))),
-        15 | 16 => format!("lookup {:08x}", some_word(random, ids)),
-        17 => "check".to_string(),
+        7..=9 => format!("operator {}", hexadecimal(&any_operator_ticket(random, ids))),
+        10..=12 => list_line(random, ids),
+        13..=15 => format!("read {}", hexadecimal(&some_image(random, ids))),
+        16 => format!("write {:04x}", random.pick(&[0, 62, 68, 69, 80, 100, 150, 250, 700])),
+        17 | 18 => format!("body {:04x} {}", random.below(14), hexadecimal(&some_image(random, ids))),
+        19 | 20 => format!("lookup {:08x}", some_word(random, ids)),
+        21 => "check".to_string(),
         _ => other_line(random),
     }
 }
@@ -87,16 +90,18 @@ fn some_word(random: &mut Random, ids: &Ids) -> u32 {
     u32::from_be_bytes([kind, a, b, c]) ^ change
 }
 
-/// A list by one of the three calls, with about as many answer bytes as it has tickets.
+/// A list by one of the four calls, with about as many answer bytes as it has tickets.
 fn list_line(random: &mut Random, ids: &Ids) -> String {
-    if random.is_one_in(3) {
+    let name = random.pick(&["list", "each", "records", "operators", "operators"]);
+    if name == "records" {
         let bytes: Vec<u8> = (0..5).flat_map(|_| bad_or_good(random, ids)).collect();
-        return format!("records {:04x} {}", 3 + random.below(5), hexadecimal(&bytes));
+        return format!("{name} {:04x} {}", 3 + random.below(5), hexadecimal(&bytes));
     }
     let count = random.below(12);
-    let bytes = list(random, ids, count);
+    let draw = if name == "operators" { operator_list } else { list };
+    let bytes = draw(random, ids, count);
     let room = ((bytes.len() + 4) / 5 + 3).saturating_sub(random.below(5));
-    format!("{} {room:04x} {}", random.pick(&["list", "each"]), hexadecimal(&bytes))
+    format!("{name} {room:04x} {}", hexadecimal(&bytes))
 }
 
 fn bad_or_good(random: &mut Random, ids: &Ids) -> [u8; 5] {

@@ -1,10 +1,12 @@
-//! The calls across the C interface: one ticket, a list of tickets, the check, a text written, a text read.
+//! The calls across the C interface: one ticket and a list of tickets, plain and operators', the check, a
+//! text written, a text read.
 
 use super::image::{facts_in, read, write};
-use super::list::{apply_list, TICKET_LENGTH};
+use super::list::{apply_list, ListCall, TICKET_LENGTH};
+use super::operator::{apply_operator, apply_operator_list};
 use super::rules::{first_broken, place_of};
 use super::table::MOST_WORDS;
-use super::ticket::apply;
+use super::ticket::{apply, TicketCall};
 use super::triples::{facts_in_text, read_triples, write_triples};
 
 /// The counts of a list call have 16 bits each, so a list has at most so many tickets.
@@ -14,12 +16,22 @@ pub const MOST_TICKETS: usize = 65_535;
 /// order. The number holds the answer, the facts added, the facts removed and the image's length, 16 bits
 /// each, lowest first, the last three 0 on refusal.
 pub fn host_call(image: &[u8], ticket: &[u8], output: &mut [u8]) -> u64 {
+    host_call_by(apply, image, ticket, output)
+}
+
+/// As `host_call`, with an operator's ticket.
+pub fn host_operator_call(image: &[u8], ticket: &[u8], output: &mut [u8]) -> u64 {
+    host_call_by(apply_operator, image, ticket, output)
+}
+
+/// The steps of `host_call`, the ticket applied by the ticket call.
+fn host_call_by(call: TicketCall, image: &[u8], ticket: &[u8], output: &mut [u8]) -> u64 {
     let mut table = [0; MOST_WORDS];
     let refusal = read(image, &mut table);
     if refusal != 0 {
         return packed(refusal, 0, 0, 0);
     }
-    let answer = apply(&mut table, ticket);
+    let answer = call(&mut table, ticket);
     if answer.number != 0 {
         return packed(answer.number, 0, 0, 0);
     }
@@ -34,6 +46,22 @@ pub fn host_call(image: &[u8], ticket: &[u8], output: &mut [u8]) -> u64 {
 /// byte and every byte of the output as it was. The number holds the answer, the tickets accepted, the
 /// tickets refused and the image's length, 16 bits each, lowest first, the last three 0 on refusal.
 pub fn host_list_call(image: &[u8], tickets: &[u8], answers: &mut [u8], output: &mut [u8]) -> u64 {
+    host_list_call_by(apply_list, image, tickets, answers, output)
+}
+
+/// As `host_list_call`, with operators' tickets.
+pub fn host_operator_list_call(image: &[u8], tickets: &[u8], answers: &mut [u8], output: &mut [u8]) -> u64 {
+    host_list_call_by(apply_operator_list, image, tickets, answers, output)
+}
+
+/// The steps of `host_list_call`, the tickets run by the list call.
+fn host_list_call_by(
+    call: ListCall,
+    image: &[u8],
+    tickets: &[u8],
+    answers: &mut [u8],
+    output: &mut [u8],
+) -> u64 {
     let mut table = [0; MOST_WORDS];
     let refusal = read(image, &mut table);
     if refusal != 0 {
@@ -44,7 +72,7 @@ pub fn host_list_call(image: &[u8], tickets: &[u8], answers: &mut [u8], output: 
         return packed(14, 0, 0, 0);
     }
     let mut numbers = vec![0; count];
-    let answer = apply_list(&mut table, tickets, &mut numbers);
+    let answer = call(&mut table, tickets, &mut numbers);
     assert_eq!(answer.number, 0, "the table is consistent, and each ticket has its byte");
     match write(&table, output) {
         (0, length) => {

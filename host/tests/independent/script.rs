@@ -2,10 +2,11 @@
 //! those that the head of crates/run_calls/src/main.rt describes.
 
 use super::image::{body, read, write};
-use super::list::apply_list;
+use super::list::{apply_list, ListCall};
+use super::operator::{apply_operator, apply_operator_list};
 use super::rules::{first_broken, name_of};
 use super::table::{check, facts_of, fresh, lookup};
-use super::ticket::apply;
+use super::ticket::{apply, TicketCall};
 
 /// The most words, output bytes and answer bytes that a script can lend.
 const WORDS: usize = 2049;
@@ -73,10 +74,12 @@ impl State {
             "fresh" => format!(" {}", fresh(&mut self.table)),
             "check" => self.check(),
             "lookup" => self.lookup(&given.bytes),
-            "apply" => self.apply(&given.bytes),
-            "list" | "each" => self.list(given),
+            "apply" => self.apply(apply, &given.bytes),
+            "operator" => self.apply(apply_operator, &given.bytes),
+            "list" | "each" => self.list(apply_list, given),
+            "operators" => self.list(apply_operator_list, given),
             "records" if given.bytes.len() != 27 => " ?".to_string(),
-            "records" => self.list(given),
+            "records" => self.list(apply_list, given),
             "write" => self.write(given),
             "read" => format!(" {}", read(&given.bytes, &mut self.table)),
             "body" => self.body(given),
@@ -132,15 +135,15 @@ impl State {
         format!(" {answer} {}", u8::from(present))
     }
 
-    fn apply(&mut self, ticket: &[u8]) -> String {
-        let answer = apply(&mut self.table, ticket);
+    fn apply(&mut self, call: TicketCall, ticket: &[u8]) -> String {
+        let answer = call(&mut self.table, ticket);
         format!(" {} {} {}", answer.number, answer.added, answer.removed)
     }
 
-    fn list(&mut self, given: &Given) -> String {
+    fn list(&mut self, call: ListCall, given: &Given) -> String {
         let (room, list) = given.number_and_rest();
         let mut answers = vec![0xff; room.min(ANSWERS)];
-        let answer = apply_list(&mut self.table, list, &mut answers);
+        let answer = call(&mut self.table, list, &mut answers);
         format!(" {} {} {}{}", answer.number, answer.accepted, answer.refused, shown(&answers))
     }
 

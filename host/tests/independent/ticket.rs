@@ -30,9 +30,20 @@ pub enum Asked {
     Delete(Fact),
 }
 
+/// A call that runs one ticket on a table.
+pub type TicketCall = fn(&mut [u32], &[u8]) -> Answer;
+
+/// How a call understands the bytes of a ticket: what they ask, or a refusal.
+pub type Reading = fn(&[u8]) -> Result<Asked, u8>;
+
 /// Runs one ticket. A refused one leaves the table as it was.
 pub fn apply(table: &mut [u32], ticket: &[u8]) -> Answer {
-    match old_and_new(table, ticket) {
+    apply_by(asked_by, table, ticket)
+}
+
+/// Runs one ticket, its bytes understood by the reading. A refused one leaves the table as it was.
+pub fn apply_by(reading: Reading, table: &mut [u32], ticket: &[u8]) -> Answer {
+    match old_and_new(reading, table, ticket) {
         Ok((old, new)) => {
             store(&new, table);
             Answer { number: 0, added: new.count_beyond(&old), removed: old.count_beyond(&new) }
@@ -41,9 +52,9 @@ pub fn apply(table: &mut [u32], ticket: &[u8]) -> Answer {
     }
 }
 
-fn old_and_new(table: &[u32], ticket: &[u8]) -> Result<(Graph, Graph), u8> {
+fn old_and_new(reading: Reading, table: &[u32], ticket: &[u8]) -> Result<(Graph, Graph), u8> {
     let old = consistent_facts_of(table)?; // refusals 1, 2, 3
-    let new = changed(&old, &asked_by(ticket)?)?;
+    let new = changed(&old, &reading(ticket)?)?;
     if new.len() > table.len() {
         return Err(11);
     }

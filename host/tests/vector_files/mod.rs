@@ -32,6 +32,13 @@ pub struct TicketCase {
     pub left: Vec<u32>,
 }
 
+/// Operators' tickets on a table on which the plain call ran others before, all of them accepted.
+pub struct OperatorCase {
+    pub before: Vec<u8>,
+    /// The operators' tickets; the last may be short of a record.
+    pub case: TicketCase,
+}
+
 /// A call for triples: what it is given, what it is lent, its answer, and what it leaves if that is 0.
 pub enum TriplesCase {
     /// A text into so many words.
@@ -92,13 +99,25 @@ pub fn exclusive_cases() -> Vec<TicketCase> {
 }
 
 fn ticket_cases(text: &'static str) -> Vec<TicketCase> {
-    lines(text)
-        .map(|columns| TicketCase {
-            name: columns[0],
-            words: number(columns[1]),
-            list: tickets(columns[2]),
-            answers: parts(columns[3]).map(answer).collect(),
-            left: words(columns[4]),
+    lines(text).map(|columns| ticket_case(&columns)).collect()
+}
+
+fn ticket_case(columns: &[&'static str]) -> TicketCase {
+    TicketCase {
+        name: columns[0],
+        words: number(columns[1]),
+        list: tickets(columns[2]),
+        answers: parts(columns[3]).map(answer).collect(),
+        left: words(columns[4]),
+    }
+}
+
+/// The tickets of the plain call are a column more before those of the operators.
+pub fn operator_cases() -> Vec<OperatorCase> {
+    lines(include_str!("../../../tests/vectors/operators.tsv"))
+        .map(|mut columns| {
+            let before = some(columns.remove(2)).map_or(Vec::new(), tickets);
+            OperatorCase { before, case: ticket_case(&columns) }
         })
         .collect()
 }

@@ -19,7 +19,7 @@ returns c =
     let s = at-read .before .before .before .before .before .args in
     let b = begun (s .image .now) (s .tickets .now) (s .room) (at-read .before .count-tickets .ensures)
     (at-read .read-for .ensures) in
-    begun-stops b (c .if1 .taken) (s .space)
+    begun-stops (s .operator) b (c .if1 .taken) (s .space)
 
 slice-aggregate-run-unanswered : tie.Need-slice-aggregate-run-unanswered
 slice-aggregate-run-unanswered c = search needs
@@ -43,7 +43,7 @@ length-checked-requires c κs =
     let s = at-read .before .before .before .before .before .args in
     let b = begun (s .image .now) (s .tickets .now) (s .room) (at-read .before .count-tickets .ensures)
     (at-read .read-for .ensures) in
-    left-table b (at-test .if1 .left) (at-run .run-unanswered .ensures)
+    left-table (s .operator) b (at-test .if1 .left) (at-run .run-unanswered .ensures)
 
 returns-2 : tie.Need-returns-2
 returns-2 c =
@@ -53,7 +53,8 @@ returns-2 c =
     let s = at-read .before .before .before .before .before .args in
     let b = begun (s .image .now) (s .tickets .now) (s .room) (at-read .before .count-tickets .ensures)
     (at-read .read-for .ensures) in
-    short-refusal b (at-test .if1 .left) (at-run .run-unanswered .ensures) (c .before .length-checked .result) (s .space)
+    short-refusal (s .operator) b (at-test .if1 .left) (at-run .run-unanswered .ensures) (c .before .length-checked .result)
+    (s .space)
     (c .before .length-checked .ensures) (c .if2 .taken)
 
 returns-3 : tie.Need-returns-3
@@ -64,7 +65,7 @@ returns-3 c =
     let s = at-read .before .before .before .before .before .args in
     let b = begun (s .image .now) (s .tickets .now) (s .room) (at-read .before .count-tickets .ensures)
     (at-read .read-for .ensures) in
-    fitting b (at-test .if1 .left) (at-run .run-unanswered .ensures) (c .before .length-checked .result) (s .space)
+    fitting (s .operator) b (at-test .if1 .left) (at-run .run-unanswered .ensures) (c .before .length-checked .result) (s .space)
     (c .before .length-checked .ensures) (c .if2 .left)
 
 pub find-refusal-spec : {M : Type 1} → statement M

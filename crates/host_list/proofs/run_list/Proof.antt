@@ -33,8 +33,8 @@ returns c =
     let s = at-read .before .before .before .before .before .before .before .args in
     let b = begun (s .image .now) (s .tickets .now) (length (s .answers .now)) (at-read .before .before .count-tickets .ensures)
     (at-read .read-for .ensures) in
-    list-refused (s .image .now) (s .tickets .now) (s .answers .now) (s .output .now)
-    (begun-stops b (c .before .if1 .taken) (length (s .output .now))) (c .before .if1 .taken) (c .pack .ensures)
+    list-refused (s .operator) (s .image .now) (s .tickets .now) (s .answers .now) (s .output .now)
+    (begun-stops (s .operator) b (c .before .if1 .taken) (length (s .output .now))) (c .before .if1 .taken) (c .pack .ensures)
 
 slice-aggregate-run-checked : tie.Need-slice-aggregate-run-checked
 slice-aggregate-run-checked c = search needs
@@ -56,7 +56,7 @@ sub-refused c =
     let s = at-read .before .before .before .before .before .before .before .args in
     let b = begun (s .image .now) (s .tickets .now) (length (s .answers .now)) (at-read .before .before .count-tickets .ensures)
     (at-read .read-for .ensures) in
-    counts-fit (s .answers .now) (s .output .now) b (at-test .if1 .left) (at-run .run-checked .ensures) .0
+    counts-fit (s .operator) (s .answers .now) (s .output .now) b (at-test .if1 .left) (at-run .run-checked .ensures) .0
 
 slice-aggregate-write-checked : tie.Need-slice-aggregate-write-checked
 slice-aggregate-write-checked c = search needs
@@ -69,7 +69,7 @@ write-checked-requires c κs =
     let s = at-read .before .before .before .before .before .before .before .args in
     let b = begun (s .image .now) (s .tickets .now) (length (s .answers .now)) (at-read .before .before .count-tickets .ensures)
     (at-read .read-for .ensures) in
-    left-table b (at-test .if1 .left) (at-run .run-checked .ensures .words)
+    left-table (s .operator) b (at-test .if1 .left) (at-run .run-checked .ensures .words)
 
 cast-pack : tie.Need-cast-pack
 cast-pack c =
@@ -79,7 +79,7 @@ cast-pack c =
     let s = at-read .before .before .before .before .before .before .before .args in
     let b = begun (s .image .now) (s .tickets .now) (length (s .answers .now)) (at-read .before .before .count-tickets .ensures)
     (at-read .read-for .ensures) in
-    let fit = counts-fit (s .answers .now) (s .output .now) b (at-test .if1 .left) (at-run .run-checked .ensures) in
+    let fit = counts-fit (s .operator) (s .answers .now) (s .output .now) b (at-test .if1 .left) (at-run .run-checked .ensures) in
     record { fits = omega (arith, fit .0, fit .1) }
 
 cast-pack-2 : tie.Need-cast-pack-2
@@ -90,7 +90,7 @@ cast-pack-2 c =
     let s = at-read .before .before .before .before .before .before .before .args in
     let b = begun (s .image .now) (s .tickets .now) (length (s .answers .now)) (at-read .before .before .count-tickets .ensures)
     (at-read .read-for .ensures) in
-    let fit = counts-fit (s .answers .now) (s .output .now) b (at-test .if1 .left) (at-run .run-checked .ensures) in
+    let fit = counts-fit (s .operator) (s .answers .now) (s .output .now) b (at-test .if1 .left) (at-run .run-checked .ensures) in
     record { fits = omega (arith, fit .1) }
 
 pack-requires-2 : tie.Need-pack-requires-2
@@ -112,7 +112,7 @@ returns-2 c =
     let s = start .args in
     let b = begun (s .image .now) (s .tickets .now) (length (s .answers .now)) (at-read .before .before .count-tickets .ensures)
     (at-read .read-for .ensures) in
-    list-done (s .answers .now) (s .output .now) b (at-test .if1 .left) (at-run .run-checked .ensures) (start .pre)
+    list-done (s .operator) (s .answers .now) (s .output .now) b (at-test .if1 .left) (at-run .run-checked .ensures) (start .pre)
     (at-write .write-checked .result) (at-write .write-checked .last .1 .0) (at-write .write-checked .ensures) (c .pack2 .ensures)
 
 pub run-list-spec : {M : Type 1} → statement M

@@ -18,7 +18,8 @@ returns : tie.Need-returns
 returns c =
     let at-find = c .before .before in
     let s = at-find .before .before .before .before .before .before .args in
-    list-refused (s .image .now) (s .tickets .now) (s .answers .now) (s .output .now) (at-find .find-refusal .ensures)
+    list-refused (s .operator) (s .image .now) (s .tickets .now) (s .answers .now) (s .output .now)
+    (at-find .find-refusal .ensures)
     (c .before .if2 .taken) (c .pack .ensures)
 
 run-list-requires : tie.Need-run-list-requires
@@ -26,9 +27,9 @@ run-list-requires c κs =
     let met = c .before .before in
     let s = met .before .before .before .before .before .args in
     ⊎-elim
-    (λ w e. not-refused (s .image .now) (s .tickets .now) (length (s .answers .now)) (length (s .output .now))
+    (λ w e. not-refused (s .operator) (s .image .now) (s .tickets .now) (length (s .answers .now)) (length (s .output .now))
     (sym (w .1 .ensures) ∙ w .2 .left) .1)
-    (λ w. longest-fits (s .image .now) (s .tickets .now) (s .output .now) (w .left))
+    (λ w. longest-fits (s .operator) (s .image .now) (s .tickets .now) (s .output .now) (w .left))
     (met .if1 .came)
 
 same-length : tie.Need-same-length

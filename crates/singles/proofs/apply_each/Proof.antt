@@ -1,4 +1,5 @@
 -- `apply_each`: the count of tickets, the refusal, the loop and the counts, put together. Assumes nothing.
+use mathlib.Core.Bool.{false}
 use borrow.Author.Needs.{needs}
 use Rattle.list_form.proofs.ListCall.{bytes-judged, list-room, list-refused, list-within, list-run}
 use Rattle.singles.proofs.apply_each.Statement.{statement}
@@ -23,7 +24,7 @@ returns c =
     let bytes = s .args .bytes .now in
     let judged = bytes-judged bytes (s .args .answers .now) (at-refusal .before .before .count-tickets .ensures)
     (at-refusal .list-refusal .ensures) in
-    list-refused bytes judged (c .before .if1 .taken) (c .sum-up .ensures)
+    list-refused false bytes judged (c .before .if1 .taken) (c .sum-up .ensures)
 
 run-each-requires : tie.Need-run-each-requires
 run-each-requires c κs =
@@ -41,7 +42,7 @@ sum-up-requires-2 c κs =
     let bytes = s .args .bytes .now in
     let judged = bytes-judged bytes (s .args .answers .now) (at-refusal .before .before .count-tickets .ensures)
     (at-refusal .list-refusal .ensures) in
-    list-within bytes judged (at-run .run-each .ensures)
+    list-within false bytes judged (at-run .run-each .ensures)
 
 same-length-2 : tie.Need-same-length-2
 same-length-2 c = search needs
@@ -58,7 +59,7 @@ returns-2 c =
     let bytes = s .args .bytes .now in
     let judged = bytes-judged bytes (s .args .answers .now) (at-refusal .before .before .count-tickets .ensures)
     (at-refusal .list-refusal .ensures) in
-    list-run bytes judged (at-run .run-each .ensures) (at-test .if1 .left) (c .sum-up2 .ensures)
+    list-run false bytes judged (at-run .run-each .ensures) (at-test .if1 .left) (c .sum-up2 .ensures)
 
 pub apply-each-spec : {M : Type 1} → statement M
 apply-each-spec =

@@ -1,6 +1,7 @@
 -- `run_each`: the invariant is `ByteWalk`, that the bytes before `from` are run as `place` tickets. The measure is the
 -- bytes that are left. Assumes nothing.
 use Prim.Native.Nat.{_-_}
+use mathlib.Core.Bool.{false}
 use lib.ListN.{length}
 use borrow.Author.Needs.{needs}
 use Rattle.rdfs.specs.Numbers.{product}
@@ -74,7 +75,7 @@ same-length-2 : tie.Need-same-length-2 Inv-loop μ-loop
 same-length-2 c = byte-out (c .before .loop .inv)
 
 returns : tie.Need-returns Inv-loop μ-loop
-returns c = register-done (c .before .loop .inv) (c .loop-test .left)
+returns c = register-done false (c .before .loop .inv) (c .loop-test .left)
 
 pub run-each-spec : {M : Type 1} → statement M
 run-each-spec =

@@ -1,0 +1,2 @@
+-- HostWays: each way through `apply_on_image`.
+pub mod HostWays
