@@ -52,7 +52,7 @@ pub record OperatorsList (calls : OperatorCalls) (table bytes answers : List ℕ
   pub cut-off-keeps : (i : ℕ) (listed : Listed) (after out : List ℕ)
       → calls .apply-list table (cutOff i bytes) answers listed after out → SameOthers after table
   -- The list call does as single calls one after another: their words, their numbers in its answer bytes, and
-  -- their counts.
+  -- how many of them are accepted and refused.
   pub as-singles : (singles : List Single) → OneByOne (calls .apply) table (cut recordLength bytes) singles
       → (listed : Listed) (after out : List ℕ) → calls .apply-list table bytes answers listed after out
       → (listed .answer ≡ 14 → ⊥) → Ran answers listed after out (doneBy table singles)
