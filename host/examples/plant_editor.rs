@@ -1,10 +1,11 @@
 //! The plant editor: members are entered as soon as their classes stand, the classes are linked late, and
 //! that a property is exclusive is said last. The order does not matter; every member is in every class above
-//! its own, and the graph is the same as if the tree had been drawn first, which makes the classes too. The
-//! plant's people speak of names, not of ids.
+//! its own, and the graph is the same as if the tree had been drawn first, which makes the classes too. A
+//! class is deleted only once everything that goes with it was shown, and if nothing has changed that since.
+//! The plant's people speak of names, not of ids.
 
 use std::error::Error;
-use vimelosa_host::{Graph, Names, Refusal};
+use vimelosa_host::{Graph, Names, Preview, Refusal};
 
 const NAMES: &str = "2\tequipment\n3\tdrive\n4\tmotor\n10\tturns\n20\tm1\n21\tm2\n22\tfan\n";
 const CLASSES: [&str; 2] = ["insert class drive", "insert class motor"];
@@ -32,6 +33,33 @@ fn members<'a>(graph: &Graph, names: &'a Names, class: &str) -> Vec<&'a str> {
     graph.members_of(class).filter_map(|member| names.name_of(member)).collect()
 }
 
+/// What would go, fact by fact, for somebody to agree to.
+fn show(preview: &Preview, names: &Names) {
+    println!("{}: {} facts would go", names.show(preview.ticket()), preview.change().removed);
+    for fact in preview.removed() {
+        println!("  {}", names.show(*fact));
+    }
+}
+
+/// Shows what goes with the drives before they go. Before the first look is agreed to, an operator puts the
+/// fan among them: it would leave them unseen, so it takes a second look.
+fn delete_drives(graph: &mut Graph, names: &Names) -> Result<(), Box<dyn Error>> {
+    let deletion = names.read_ticket("delete class drive")?;
+    let first = graph.preview(deletion)?;
+    show(&first, names);
+    let entered = names.read_ticket("insert member fan drive")?;
+    graph.apply_as_operator(entered)?;
+    println!("{}: entered meanwhile", names.show(entered));
+    assert_eq!(first.commit(graph), Err(Refusal::OutOfDate));
+    println!("{}: {}", names.show(deletion), Refusal::OutOfDate);
+
+    let second = graph.preview(deletion)?;
+    show(&second, names);
+    assert_eq!(second.change().removed, first.change().removed + 1);
+    assert_eq!(second.commit(graph), Ok(second.change()));
+    Ok(())
+}
+
 fn main() -> Result<(), Box<dyn Error>> {
     let names: Names = NAMES.parse()?;
     let mut late = graph_of(&names, &[&CLASSES, &MEMBERS, &PROPERTY, &VALUE, &LINKS, &EXCLUSIVE])?;
@@ -45,6 +73,12 @@ fn main() -> Result<(), Box<dyn Error>> {
     let second = names.read_ticket("insert value m2 fan turns")?;
     assert_eq!(late.apply(second), Err(Refusal::Clashing));
     println!("{}: {}", names.show(second), Refusal::Clashing);
+
+    // The drives and what turns what are gone; their members are equipment still, and the motor is a motor.
+    delete_drives(&mut late, &names)?;
+    assert!(members(&late, &names, "drive").is_empty());
+    assert_eq!(members(&late, &names, "equipment"), ["m1", "m2", "fan"]);
+    assert_eq!(members(&late, &names, "motor"), ["m1"]);
     Ok(())
 }
 

@@ -3,7 +3,8 @@
  * An image is a graph in bytes. The calls that change the graph are given an image and write a new one to an
  * output. A ticket is five bytes that ask to insert or to delete: operation, kind, and the ids a, b, c,
  * unused ones 0. Ids are chosen by the caller, but 0 is Resource, the class of everything, and 1 is the mark
- * Literal, which is a range and names nothing else. A text is a graph in lines of N-Triples.
+ * Literal, which is a range and names nothing else. A text is a graph in lines of N-Triples. A run is facts
+ * that a ticket would add or remove, each a word.
  *
  * Image. Byte 0 is 1 and byte 1 is 11. Then each kind from 1 to 11 has an entry of six bytes: the kind; the
  * bytes per fact; the place in the image where its facts start, and how many there are, both 16 bits with the
@@ -30,13 +31,17 @@
  * Lines are written in the order of the image's facts. They are read in any order, and repeated ones count
  * once.
  *
+ * Run. A fact's word has 32 bits: the kind and the ids a, b, c, eight bits each, the kind highest. Words
+ * ascend as the image's facts do.
+ *
  * C. C99 or later, or C++11 or later. The archive libvimelosa.a needs memcpy and memset, and nothing else.
  *
- * Buffers. A buffer is passed as a pointer and then its length in bytes. All buffers belong to the caller,
- * before and after a call: the library keeps none of them, and takes no memory but the stack. A call writes
- * to `answers` and `output` only, and these must not overlap each other or any other buffer of the call.
- * Buffers that are only read may overlap. None needs an alignment. Where a length is 0 the pointer may be
- * null.
+ * Buffers. A buffer is passed as a pointer and then its length, in bytes; that of the runs `added` and
+ * `removed` is in words. All buffers belong to the caller, before and after a call: the library keeps none of
+ * them, and takes no memory but the stack. A call writes to `answers` and `output` only, and vimelosa_ask to
+ * `added` and `removed`; what a call writes to must not overlap any other buffer of the call. Buffers that
+ * are only read may overlap. The runs need the alignment of uint32_t, the others none. Where a length is 0
+ * the pointer may be null.
  *
  * Threads. There is no global state. Calls on different buffers may run at once, and calls that only read the
  * same buffer may too. A stack of 64 KB is enough for the deepest calls known.
@@ -45,6 +50,17 @@
  * with the first refusal, in its own order, whose condition holds, and only then. A refused call leaves every
  * byte of its buffers as it was, and the other parts of its result are 0, but for the rule's place that
  * vimelosa_check and vimelosa_read_triples tell with 3.
+ *
+ * Two calls for one ticket. To show what goes with a class before it goes, and to delete it only if that is
+ * what goes:
+ *   uint32_t removed[VIMELOSA_MOST_FACTS];
+ *   uint64_t asked = vimelosa_ask(image, image_length, ticket, sizeof ticket,
+ *                                 NULL, 0, removed, VIMELOSA_MOST_FACTS);
+ *   ... show the first vimelosa_removed(asked) words of removed, and let somebody agree ...
+ *   uint64_t done = vimelosa_commit(image, image_length, ticket, sizeof ticket,
+ *                                   NULL, 0, removed, vimelosa_removed(asked), output, sizeof output);
+ * If another image was put in the place of the first in between, and the ticket would do something else to
+ * it, the second call answers 18.
  */
 #ifndef VIMELOSA_H
 #define VIMELOSA_H
@@ -59,7 +75,7 @@ extern "C" {
 /* No image that a call accepts or writes has more bytes: an output of so many is never too short. */
 #define VIMELOSA_LONGEST_IMAGE 6212
 
-/* A graph has at most so many facts. */
+/* A graph has at most so many facts: a run of so many words is never too short. */
 #define VIMELOSA_MOST_FACTS 2048
 
 /* No line of a text that a call reads or writes has more bytes, its newline counted. */
@@ -143,7 +159,7 @@ enum vimelosa_refusal {
     VIMELOSA_TOO_MANY = 11,
     /* The image is malformed. */
     VIMELOSA_MALFORMED = 12,
-    /* The output is shorter than the new image or the text. */
+    /* The output is shorter than the new image or the text, or a run than the words to go to it. */
     VIMELOSA_SHORT_OUTPUT = 13,
     /* There are fewer answer bytes than tickets, or more than 65,535 tickets. */
     VIMELOSA_FEW_ANSWERS = 14,
@@ -155,7 +171,10 @@ enum vimelosa_refusal {
     VIMELOSA_UNKNOWN_CLASS = 16,
     /* The kind of an operator's ticket is not for operators. Among the refusals of such a ticket it stands
      * between 7 and 8; no call for other tickets gives it. */
-    VIMELOSA_NOT_FOR_OPERATORS = 17
+    VIMELOSA_NOT_FOR_OPERATORS = 17,
+    /* The runs are out of date: they are not exactly what the ticket would add to the graph and remove from
+     * it now. */
+    VIMELOSA_OUT_OF_DATE = 18
 };
 
 /* Applies one ticket to the image's graph and writes the new image to the output.
@@ -211,6 +230,35 @@ uint64_t vimelosa_apply_operator_list(const uint8_t *image, size_t image_length,
                                       uint8_t *answers, size_t answers_length,
                                       uint8_t *output, size_t output_length);
 
+/* Asks what a ticket would do to the image's graph and changes nothing: the words of the facts that would be
+ * added are written to the front of `added`, those of the facts that would be removed to the front of
+ * `removed`, ascending. An insertion removes nothing and a deletion adds nothing, so that a run of no words
+ * is enough there.
+ *
+ * Refusals, in this order: 12, 11, 3 of the image; 4, 5, 6, 7, 8, 9, 16, 10, 11 of the ticket; 13 of a run,
+ * whichever is too short.
+ *
+ * The result has three parts: vimelosa_answer, vimelosa_added and vimelosa_removed, which count the words
+ * written, as many as vimelosa_apply counts facts. Words of the runs after them are left as they were. */
+uint64_t vimelosa_ask(const uint8_t *image, size_t image_length,
+                      const uint8_t *ticket, size_t ticket_length,
+                      uint32_t *added, size_t added_length,
+                      uint32_t *removed, size_t removed_length);
+
+/* Applies a ticket that was asked about, as vimelosa_apply does, if `added` and `removed` are exactly what
+ * vimelosa_ask would write for it now: the same words in the same order, none missing and none after them.
+ * Else it is refused with 18. For a ticket that changes nothing both runs have no words.
+ *
+ * Refusals, in this order: 12, 11, 3 of the image; 4, 5, 6, 7, 8, 9, 16, 10, 11 of the ticket; 18 of the
+ * runs; 13 of the output.
+ *
+ * The result has the parts of vimelosa_apply's, and the output is left as vimelosa_apply leaves it. */
+uint64_t vimelosa_commit(const uint8_t *image, size_t image_length,
+                         const uint8_t *ticket, size_t ticket_length,
+                         const uint32_t *added, size_t added_length,
+                         const uint32_t *removed, size_t removed_length,
+                         uint8_t *output, size_t output_length);
+
 /* Reads the image and writes nothing: 0 if it is well formed and its graph is consistent.
  *
  * Refusals, in this order: 12, 11, 3.
@@ -243,12 +291,13 @@ static inline uint16_t vimelosa_answer(uint64_t result) {
     return (uint16_t)(result & 0xffff);
 }
 
-/* Of vimelosa_apply and vimelosa_apply_operator: how many facts the new graph has that the old has not. */
+/* Of vimelosa_apply, vimelosa_apply_operator, vimelosa_ask and vimelosa_commit: how many facts the new graph
+ * has, or would have, that the old has not. */
 static inline uint16_t vimelosa_added(uint64_t result) {
     return (uint16_t)(result >> 16 & 0xffff);
 }
 
-/* Of vimelosa_apply and vimelosa_apply_operator: how many facts the old graph has that the new has not. */
+/* Of the same calls: how many facts the old graph has that the new has not, or would not have. */
 static inline uint16_t vimelosa_removed(uint64_t result) {
     return (uint16_t)(result >> 32 & 0xffff);
 }
@@ -263,7 +312,8 @@ static inline uint16_t vimelosa_refused(uint64_t result) {
     return (uint16_t)(result >> 32 & 0xffff);
 }
 
-/* Of the calls that run tickets and of vimelosa_read_triples: how many bytes the new image has. */
+/* Of the calls that run tickets and of vimelosa_read_triples: how many bytes the new image has. Of
+ * vimelosa_ask it is 0. */
 static inline size_t vimelosa_length(uint64_t result) {
     return (size_t)(result >> 48);
 }

@@ -34,9 +34,6 @@ pub struct AppliedList {
     pub length: usize,
 }
 
-/// A host call for one ticket: image, ticket and output, and its number as it comes.
-type RawCall = fn(&[u8], &[u8], &mut [u8]) -> u64;
-
 /// A host call for a list: image, tickets, answers and output, and its number as it comes.
 type RawListCall = fn(&[u8], &[u8], &mut [u8], &mut [u8]) -> u64;
 
@@ -66,7 +63,7 @@ type RawListCall = fn(&[u8], &[u8], &mut [u8], &mut [u8]) -> u64;
 /// inconsistent image the image is read once more, for the length of a short output the call is made once
 /// more. An output of [`LONGEST_IMAGE`] bytes is never too short.
 pub fn apply_ticket(image: &[u8], ticket: &[u8], output: &mut [u8]) -> Result<Applied, Refusal> {
-    applied_by(call_raw, image, ticket, output)
+    applied_by(|output| call_raw(image, ticket, output), image, output)
 }
 
 /// Applies an operator's ticket of any length to an image and writes the new image to the output. With a kind
@@ -92,13 +89,17 @@ pub fn apply_ticket(image: &[u8], ticket: &[u8], output: &mut [u8]) -> Result<Ap
 /// [`apply_ticket`], with [`Refusal::NotForOperators`] after [`Refusal::BadIds`]), [`Refusal::ShortOutput`]
 /// for the output, in this order and at the cost that [`apply_ticket`] tells. The output is then as it was.
 pub fn apply_operator_ticket(image: &[u8], ticket: &[u8], output: &mut [u8]) -> Result<Applied, Refusal> {
-    applied_by(call_operator_raw, image, ticket, output)
+    applied_by(|output| call_operator_raw(image, ticket, output), image, output)
 }
 
-fn applied_by(call: RawCall, image: &[u8], ticket: &[u8], output: &mut [u8]) -> Result<Applied, Refusal> {
-    let [number, added, removed, length] = parts_of(call(image, ticket, output));
-    let again = |long_enough: &mut [u8]| call(image, ticket, long_enough);
-    outcome(number, || broken_rule(image), || needed_by(again))?;
+/// A ticket by a host call, which is given the output and answers its number as it comes.
+pub(crate) fn applied_by(
+    call: impl Fn(&mut [u8]) -> u64,
+    image: &[u8],
+    output: &mut [u8],
+) -> Result<Applied, Refusal> {
+    let [number, added, removed, length] = parts_of(call(output));
+    outcome(number, || broken_rule(image), || needed_by(&call))?;
     Ok(Applied { change: Change { added, removed }, length: usize::from(length) })
 }
 

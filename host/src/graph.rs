@@ -6,9 +6,6 @@ use crate::rows::Rows;
 use crate::{AllFacts, Fact, Facts, Kind, Refusal, Ticket};
 use std::fmt;
 
-/// A call for one ticket: image, ticket and output.
-type TicketCall = fn(&[u8], &[u8], &mut [u8]) -> Result<Applied, Refusal>;
-
 /// A consistent graph. Its image is what a backup keeps. A graph has one image, so two graphs are equal if
 /// their images are.
 #[derive(Clone, PartialEq, Eq, Hash)]
@@ -86,7 +83,12 @@ impl Graph {
         self.apply_by(apply_ticket, ticket)
     }
 
-    pub(crate) fn apply_by(&mut self, call: TicketCall, ticket: Ticket) -> Result<Change, Refusal> {
+    /// Runs one ticket by a call: image, ticket and output.
+    pub(crate) fn apply_by(
+        &mut self,
+        call: impl FnOnce(&[u8], &[u8], &mut [u8]) -> Result<Applied, Refusal>,
+        ticket: Ticket,
+    ) -> Result<Change, Refusal> {
         let mut output = [0; LONGEST_IMAGE];
         let applied = call(&self.image, &ticket.bytes(), &mut output)?;
         self.replace_image(&output[..applied.length]);

@@ -7,7 +7,7 @@ use std::error::Error;
 use std::fmt;
 
 /// Why a call refused, each with document 01's number and words, from 15 on with document 02's. A refusal
-/// leaves all lent memory as it was. More will follow, 18 to 20, so a `match` on it has an arm for the
+/// leaves all lent memory as it was. More will follow, 19 and 20, so a `match` on it has an arm for the
 /// others.
 #[derive(Clone, Copy, PartialEq, Eq, Hash, Debug)]
 #[non_exhaustive]
@@ -41,7 +41,8 @@ pub enum Refusal {
     TooMany,
     /// 12: image malformed.
     Malformed,
-    /// 13: output shorter than the image or the text.
+    /// 13: output shorter than the image or the text. [`ask_raw`](crate::ask_raw) gives it too, for a run
+    /// shorter than the words to go to it.
     ShortOutput {
         /// The length of the image or the text: an output of that many bytes is long enough.
         needed: usize,
@@ -55,6 +56,9 @@ pub enum Refusal {
     /// 17: kind not for operators, who have 3, 4, 9 and 10. The operators' calls alone give it; there it
     /// follows 7.
     NotForOperators,
+    /// 18: runs out of date: what was shown of a ticket is not exactly what it would do to the graph now.
+    /// Committing alone gives it; there it follows 11.
+    OutOfDate,
 }
 
 /// The number of [`Refusal::Inconsistent`], whose rule it does not tell.
@@ -64,7 +68,7 @@ pub(crate) const INCONSISTENT: u16 = 3;
 pub(crate) const SHORT_OUTPUT: u16 = 13;
 
 /// The others, which their number tells.
-const TOLD_BY_NUMBER: [Refusal; 15] = [
+const TOLD_BY_NUMBER: [Refusal; 16] = [
     Refusal::BadSize,
     Refusal::BadLayout,
     Refusal::BadLength,
@@ -80,6 +84,7 @@ const TOLD_BY_NUMBER: [Refusal; 15] = [
     Refusal::OutsideProfile,
     Refusal::UnknownClass,
     Refusal::NotForOperators,
+    Refusal::OutOfDate,
 ];
 
 impl Refusal {
@@ -113,6 +118,7 @@ impl Refusal {
             Refusal::OutsideProfile => 15,
             Refusal::UnknownClass => 16,
             Refusal::NotForOperators => 17,
+            Refusal::OutOfDate => 18,
         }
     }
 
@@ -141,6 +147,7 @@ impl Refusal {
             Refusal::OutsideProfile => "A line of the text is outside the profile.",
             Refusal::UnknownClass => "The ticket names a class that the graph does not have.",
             Refusal::NotForOperators => "The ticket names a kind that is not for operators.",
+            Refusal::OutOfDate => "What was shown is not what the ticket would do now.",
         }
     }
 }

@@ -1,4 +1,4 @@
-//! The C interface by way of its header, include/vimelosa.h: a program in C, compiled as a caller would and
+//! The C interface by way of its header, include/vimelosa.h: programs in C, compiled as a caller would and
 //! run; one that measures the calls' stack, beside README; the header alone as C and as C++; its names and
 //! numbers beside those of the documents and of Rust.
 
@@ -11,7 +11,7 @@ use vimelosa_host::{Graph, Kind, LONGEST_IMAGE, LONGEST_LINE, LONGEST_TEXT, MOST
 
 const STRICT: [&str; 4] = ["-Wall", "-Wextra", "-Werror", "-pedantic"];
 
-/// What the program prints. The list is document 01's, and one more of two bytes.
+/// What `plant` prints. The list is document 01's, and one more of two bytes.
 const PRINTED: &str = "\
 insert class 2: answer 0, added 2, removed 0, length 72, rest as lent 1
 delete Resource is guarded: 1
@@ -70,6 +70,37 @@ read triples without a last newline: answer 15, rule place 0, length 0, rest as 
 the text is outside the profile: 1
 read triples without Resource: answer 3, rule place 4, length 0, rest as lent 1
 read no triples: answer 3, rule place 25, length 0, rest as lent 1
+";
+
+/// What `preview` prints.
+const PREVIEW_PRINTED: &str = "\
+the plant: accepted 3, length 89
+ask to insert class 2: answer 0, added 2, removed 0, above 0, rest as lent 1
+added: 01020000 05020000
+commit: answer 0, added 2, removed 0, length 72, rest as lent 1
+as the single call: 1
+ask to delete class 3: answer 0, added 0, removed 7, above 0, rest as lent 1
+removed: 01030000 02050000 05030000 05030200 07050300 08050100 09040300
+commit: answer 0, added 0, removed 7, length 77, rest as lent 1
+as the single call: 1
+commit on what it left: answer 18, added 0, removed 0, length 0, rest as lent 1
+the run is short: 1
+ask with a short run: answer 13, added 0, removed 0, above 0, rest as lent 1
+the runs are out of date: 1
+commit with a word more: answer 18, added 0, removed 0, length 0, rest as lent 1
+commit with a word less: answer 18, added 0, removed 0, length 0, rest as lent 1
+commit in another order: answer 18, added 0, removed 0, length 0, rest as lent 1
+commit with the runs exchanged: answer 18, added 0, removed 0, length 0, rest as lent 1
+commit once the class is there: answer 18, added 0, removed 0, length 0, rest as lent 1
+commit to a short output: answer 13, added 0, removed 0, length 0, rest as lent 1
+commit what is guarded: answer 8, added 0, removed 0, length 0, rest as lent 1
+ask what is there already: answer 0, added 0, removed 0, above 0, rest as lent 1
+ask what is guarded: answer 8, added 0, removed 0, above 0, rest as lent 1
+ask nothing: answer 4, added 0, removed 0, above 0, rest as lent 1
+ask, all empty: answer 12, added 0, removed 0, above 0, rest as lent 1
+commit, all empty: answer 12, added 0, removed 0, length 0, rest as lent 1
+commit what is there already: answer 0, added 0, removed 0, length 89, rest as lent 1
+the image is the old one: 1
 ";
 
 /// A file of the host's folder.
@@ -142,10 +173,12 @@ impl Compiler {
         String::from_utf8(ended.stdout).expect("the program prints text")
     }
 
-    /// The program prints what it should.
-    fn run_plant(&self) {
-        let printed = self.printed("plant", &[]);
-        assert_eq!(printed.lines().collect::<Vec<_>>(), PRINTED.lines().collect::<Vec<_>>());
+    /// The programs print what they should.
+    fn run_programs(&self) {
+        for (name, expected) in [("plant", PRINTED), ("preview", PREVIEW_PRINTED)] {
+            let printed = self.printed(name, &[]);
+            assert_eq!(printed.lines().collect::<Vec<_>>(), expected.lines().collect::<Vec<_>>());
+        }
     }
 }
 
@@ -155,8 +188,8 @@ fn built(name: &str) -> PathBuf {
 }
 
 #[test]
-fn a_program_in_c_calls_by_the_header() {
-    C.run_plant();
+fn programs_in_c_call_by_the_header() {
+    C.run_programs();
 }
 
 #[test]
@@ -189,18 +222,19 @@ fn the_calls_take_the_stack_that_readme_says() {
     assert_eq!(lines.len(), said.len());
     for (line, (call, most)) in lines.iter().zip(said) {
         let bytes: u64 = line[2].parse().expect("a number");
-        let answer = if call == "vimelosa_apply" { "11" } else { "0" };
+        let is_too_many = ["vimelosa_apply", "vimelosa_ask", "vimelosa_commit"].contains(&call.as_str());
+        let answer = if is_too_many { "11" } else { "0" };
         assert_eq!(line[..2], [call.as_str(), answer]);
         assert!(bytes <= most && most - bytes < 256, "{call} takes {bytes} bytes, README says {most}");
     }
 }
 
-/// Where there is a compiler for it, the header alone and the program.
+/// Where there is a compiler for it, the header alone and the programs.
 #[test]
-fn the_header_and_the_program_compile_as_cpp() {
+fn the_header_and_the_programs_compile_as_cpp() {
     if CPP.is_there() {
         CPP.compile_header();
-        CPP.run_plant();
+        CPP.run_programs();
     }
 }
 
@@ -248,7 +282,7 @@ fn refusals_of_document() -> Vec<(String, u16)> {
 fn the_refusals_of_the_header_are_those_of_the_document() {
     let refusals = numbers_of_header("refusal");
     let numbers: Vec<u16> = refusals.iter().map(|(_, number)| *number).collect();
-    assert_eq!(numbers, (1..=17).collect::<Vec<u16>>());
+    assert_eq!(numbers, (1..=18).collect::<Vec<u16>>());
     assert_eq!(refusals, refusals_of_document());
 }
 
@@ -283,7 +317,8 @@ fn the_sizes_of_the_header_are_those_of_rust() {
 
 #[test]
 fn the_header_and_the_programs_keep_to_110_columns() {
-    for name in ["include/vimelosa.h", "tests/c_interface/plant.c", "tests/c_interface/stack.c"] {
+    let programs = ["plant", "preview", "stack"].map(|name| format!("tests/c_interface/{name}.c"));
+    for name in programs.iter().map(String::as_str).chain(["include/vimelosa.h"]) {
         let long = text_of(name).lines().position(|line| line.chars().count() > 110);
         assert_eq!(long, None, "in {name}");
     }

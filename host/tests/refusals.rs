@@ -111,6 +111,7 @@ fn tickets_that_name_something_by_id_1_are_refused() {
     for ticket in tickets {
         assert_eq!(Graph::fresh().apply(ticket), Err(Refusal::BadIds), "{ticket:?}");
         assert_eq!(Graph::fresh().apply_as_operator(ticket), Err(Refusal::BadIds), "{ticket:?}");
+        assert_eq!(Graph::fresh().preview(ticket), Err(Refusal::BadIds), "{ticket:?}");
     }
 }
 

@@ -1,12 +1,15 @@
 //! The calls across the C interface on a thread with a small stack: texts of full tables, and the tickets
-//! whose side effects nest deepest, singly and in a list. A side effect is put in with side effects of its
-//! own, so the depth is that of the longest way through a graph: a chain of links below the new link, then a
-//! chain above it, where each step goes to the nearest id first.
+//! whose side effects nest deepest, singly, in a list, and asked about and committed. A side effect is put in
+//! with side effects of its own, so the depth is that of the longest way through a graph: a chain of links
+//! below the new link, then a chain above it, where each step goes to the nearest id first.
 
+use std::fmt::Debug;
 use std::thread;
-use vimelosa_host::{call_list_raw, call_operator_list_raw, call_operator_raw, call_raw};
+use vimelosa_host::{
+    ask_raw, call_list_raw, call_operator_list_raw, call_operator_raw, call_raw, commit_raw,
+};
 use vimelosa_host::{check_raw, read_triples_raw, write_triples_raw};
-use vimelosa_host::{Graph, Range, Ticket, LONGEST_IMAGE, LONGEST_TEXT, RESOURCE};
+use vimelosa_host::{Graph, Range, Ticket, LONGEST_IMAGE, LONGEST_TEXT, MOST_FACTS, RESOURCE};
 
 /// The stack that a thread is to have. The deepest call known takes three quarters of it.
 const STACK: usize = 64 * 1024;
@@ -78,23 +81,46 @@ type Calls = (fn(&[u8], &[u8], &mut [u8]) -> u64, fn(&[u8], &[u8], &mut [u8], &m
 const PLAIN: Calls = (call_raw, call_list_raw);
 const OPERATOR: Calls = (call_operator_raw, call_operator_list_raw);
 
-/// What a call answers, and the bytes that it leaves in what it was lent to write to.
-type Left = (u64, Vec<u8>, Vec<u8>);
+/// What a call answers, and the bytes or words that it leaves in what it was lent to write to.
+type Left<T> = (u64, Vec<T>, Vec<T>);
 
 /// What the call leaves on a thread with a small stack is what it leaves on the test's own.
-fn on_small_stack(call: impl Fn() -> Left + Send + 'static) -> Left {
+fn on_small_stack<T>(call: impl Fn() -> Left<T> + Send + 'static) -> Left<T>
+where
+    T: Debug + PartialEq + Send + 'static,
+{
     let left = call();
     let small = thread::Builder::new().stack_size(STACK).spawn(call);
     assert_eq!(small.expect("a thread starts").join().expect("it ends"), left);
     left
 }
 
-/// The ticket by the plain calls, and the check.
+/// The ticket by the plain calls, asked about and committed, and the check.
 fn call_on_small_stack(graph: &Graph, ticket: Ticket, expected: u64) {
     run_by(PLAIN, graph, ticket, expected);
+    call_in_two(graph.image(), ticket, expected);
     let image = graph.image().to_vec();
-    let (answer, ..) = on_small_stack(move || (check_raw(&image), Vec::new(), Vec::new()));
+    let (answer, ..) = on_small_stack(move || (check_raw(&image), Vec::<u8>::new(), Vec::new()));
     assert_eq!(answer, 0);
+}
+
+/// The ticket asked about, and committed with the words that asking wrote.
+fn call_in_two(image: &[u8], ticket: Ticket, expected: u64) {
+    let held = image.to_vec();
+    let (answer, mut added, mut removed) = on_small_stack(move || {
+        let (mut added, mut removed) = (vec![7; MOST_FACTS], vec![7; MOST_FACTS]);
+        let answer = ask_raw(&held, &ticket.bytes(), &mut added, &mut removed);
+        (answer, added, removed)
+    });
+    assert_eq!(answer & 0xffff, expected);
+    let held = image.to_vec();
+    added.truncate((answer >> 16 & 0xffff) as usize);
+    removed.truncate((answer >> 32 & 0xffff) as usize);
+    let (answer, ..) = on_small_stack(move || {
+        let mut output = vec![7; LONGEST_IMAGE];
+        (commit_raw(&held, &ticket.bytes(), &added, &removed, &mut output), output, Vec::new())
+    });
+    assert_eq!(answer & 0xffff, expected);
 }
 
 /// The ticket by itself, and twice in a list, with an output that is as long as any image and with one that
@@ -171,9 +197,11 @@ fn chains_that_a_value_climbs() {
         let classes = Chains::of_lengths(1, length);
         let mut graph = class_chains(&classes);
         run(&mut graph, [open_property(150, classes.upper[0]), Ticket::insert_exclusive(150)]);
+        let value = Ticket::insert_value(200, 201, 150);
         for calls in [PLAIN, OPERATOR] {
-            run_by(calls, &graph, Ticket::insert_value(200, 201, 150), expected);
+            run_by(calls, &graph, value, expected);
         }
+        call_in_two(graph.image(), value, expected);
     }
     let properties = Chains::of_lengths(1, 60);
     let value = Ticket::insert_value(2, 4, properties.upper[0]);

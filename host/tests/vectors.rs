@@ -1,6 +1,7 @@
 //! The vectors on the independent implementation: the W3C suites, the worked examples of the papers, members
 //! and their classes, exclusive properties, operators' tickets, tables and images, and texts of triples. The
-//! operators' tickets are run by the proved calls too.
+//! operators' tickets are run by the proved calls too, and so are tickets asked about and committed, which
+//! `independent_previews` has on the independent implementation.
 
 mod generator;
 mod independent;
@@ -17,9 +18,10 @@ use independent::ticket::{apply, Answer};
 use independent::triples::{read_triples, write_triples};
 use vector_files::{
     class_cases, database, exclusive_cases, image_cases, ntriples_files, operator_cases, paper_cases,
-    suite_cases, triples_cases, ImageCase, OperatorCase, PaperCase, TicketCase, TriplesCase,
+    preview_cases, suite_cases, triples_cases, ImageCase, OperatorCase, PaperCase, PreviewCall, PreviewCase,
+    TicketCase, TriplesCase,
 };
-use vimelosa_host::{call_operator_list_raw, call_operator_raw, Graph, LONGEST_IMAGE};
+use vimelosa_host::{ask_raw, call_operator_list_raw, call_operator_raw, commit_raw, Graph, LONGEST_IMAGE};
 
 #[test]
 fn suites_have_57_cases_papers_72_and_classes_49() {
@@ -34,6 +36,11 @@ fn exclusive_properties_have_84_cases_and_images_165() {
 #[test]
 fn operators_have_64_cases() {
     assert_eq!(operator_cases().len(), 64);
+}
+
+#[test]
+fn previews_have_95_cases() {
+    assert_eq!(preview_cases().len(), 95);
 }
 
 #[test]
@@ -161,6 +168,14 @@ fn operator_cases_give_their_answers_and_leave_their_words() {
     }
 }
 
+/// The graph that tickets leave of a fresh one.
+fn graph_after(list: &[u8]) -> Graph {
+    let mut graph = Graph::fresh();
+    let tickets: Vec<_> = list.chunks(5).map(|ticket| ticket.try_into().unwrap()).collect();
+    graph.apply_all_or_none(&tickets).unwrap();
+    graph
+}
+
 /// Those on 2,048 words, as many as the calls across the C interface have, by the proved calls and by the
 /// independent ones.
 #[test]
@@ -169,9 +184,7 @@ fn operator_cases_across_the_c_interface() {
         if case.words != MOST_WORDS {
             continue;
         }
-        let mut graph = Graph::fresh();
-        let tickets: Vec<_> = before.chunks(5).map(|ticket| ticket.try_into().unwrap()).collect();
-        graph.apply_all_or_none(&tickets).unwrap();
+        let graph = graph_after(&before);
         for call in [call_operator_raw as HostCall, host_operator_call] {
             let (numbers, left) = run_singly(call, graph.image(), &case.list);
             let answers: Vec<[usize; 3]> = numbers.into_iter().map(first_parts).collect();
@@ -185,6 +198,45 @@ fn operator_cases_across_the_c_interface() {
             assert_eq!(first_parts(number), [0, accepted, answers.len() - accepted], "{}", case.name);
             assert_eq!(answers, numbers_of(&case), "{}", case.name);
             assert_eq!(words_in(&output[..(number >> 48) as usize]), case.left, "{}", case.name);
+        }
+    }
+}
+
+/// The proved call writes the case's words to the front of each run, and no other.
+fn ask_case(case: &PreviewCase, lent: [usize; 2], written: &[Vec<u32>; 2]) {
+    let [mut added, mut removed] = lent.map(|length| vec![u32::MAX; length]);
+    let number = ask_raw(graph_after(&case.before).image(), &case.ticket, &mut added, &mut removed);
+    assert_eq!((first_parts(number), number >> 48), (case.answer, 0), "{}", case.name);
+    for (run, written) in [added, removed].iter().zip(written) {
+        let (front, rest) = run.split_at(written.len());
+        assert!(front == written && rest.iter().all(|word| *word == u32::MAX), "{}", case.name);
+    }
+}
+
+/// The proved call leaves the words of the runs put in and taken out, or nothing if it refuses.
+fn commit_case(case: &PreviewCase, [added, removed]: &[Vec<u32>; 2]) {
+    let (graph, mut output) = (graph_after(&case.before), vec![0xff; LONGEST_IMAGE]);
+    let number = commit_raw(graph.image(), &case.ticket, added, removed, &mut output);
+    assert_eq!(first_parts(number), case.answer, "{}", case.name);
+    let (image, rest) = output.split_at((number >> 48) as usize);
+    assert!(rest.iter().all(|byte| *byte == 0xff), "{}", case.name);
+    assert_eq!(image.is_empty(), case.answer[0] != 0, "{}", case.name);
+    if !image.is_empty() {
+        let mut left = words_in(graph.image());
+        left.retain(|word| !removed.contains(word));
+        left.extend(added);
+        left.sort_unstable();
+        assert_eq!(words_in(image), left, "{}", case.name);
+    }
+}
+
+/// Those on 2,048 words by the proved calls.
+#[test]
+fn preview_cases_across_the_c_interface() {
+    for case in preview_cases().into_iter().filter(|case| case.words == MOST_WORDS) {
+        match &case.call {
+            PreviewCall::Ask { lent, written } => ask_case(&case, *lent, written),
+            PreviewCall::Commit { runs } => commit_case(&case, runs),
         }
     }
 }

@@ -1,6 +1,7 @@
 //! `apply`: tickets run on the graph of an image, and the files saved.
 
 use crate::args;
+use crate::ask::Asking;
 use crate::explain::Explainer;
 use crate::failure::{Answer, Failure, DONE, REFUSED};
 use crate::files::{Image, NamesFile};
@@ -9,15 +10,16 @@ use crate::replace::Replacement;
 use crate::sender::Sender;
 use crate::stat::used_ids;
 use crate::text::{count, filled, grouped, named, WIDTH};
-use crate::tickets::{understand, Source, Understood};
+use crate::tickets::{understand, Given, Source, Understood};
 use clap::ArgMatches;
 use vimelosa_host::{Graph, Names, Refusal, Ticket};
 
 /// Before a line that goes on with the one above.
-const INDENT: &str = "  ";
+pub const INDENT: &str = "  ";
 
 pub fn run(matches: &ArgMatches) -> Result<Answer, Failure> {
     let path = args::path_of(matches, "IMAGE");
+    let mut asking = Asking::of(matches)?;
     let image = Image::read(path)?;
     let names = NamesFile::read_or_begin(matches, path)?;
     let source = Source::read(matches)?;
@@ -25,25 +27,33 @@ pub fn run(matches: &ArgMatches) -> Result<Answer, Failure> {
 
     let sender = Sender::of(matches);
     let is_all_or_nothing = matches.get_flag("all-or-nothing");
-    let ran = run_list(sender, &image.graph, &understood.tickets, is_all_or_nothing);
+    let ran = match &mut asking {
+        Some(asking) => asking.run_list(&source, &understood, &image.graph, is_all_or_nothing)?,
+        None => run_list(sender, &image.graph, &understood.tickets, is_all_or_nothing),
+    };
     let kept = kept_ids(&understood, &ran.graph);
     save(&image, &names, &understood.names, &kept, &ran.graph)?;
-    let status = if ran.refused.is_empty() { DONE } else { REFUSED };
-    let explainer = Explainer::new(sender, &source, &understood, &image.graph);
-    let text = [
-        report_refused(&source, &ran, explainer),
-        report_sum(&source, &image.graph, &ran),
-        report_names(&understood.names, &kept),
-    ];
+    let status = if ran.refused.is_empty() && ran.not_agreed == 0 { DONE } else { REFUSED };
+    let said = match asking {
+        // Refused tickets were shown among the others.
+        Some(asking) => asking.kept,
+        None => {
+            let explainer = Explainer::new(sender, &source, &understood, image.graph.clone());
+            report_refused(&source, &ran, explainer)
+        }
+    };
+    let text = [said, report_sum(&source, &image.graph, &ran), report_names(&understood.names, &kept)];
     Ok(Answer::of(text.concat()).with_status(status))
 }
 
 /// What a list left, and its refused tickets by their places.
-struct Ran {
-    graph: Graph,
-    refused: Vec<(usize, Refusal)>,
-    /// A refused ticket dropped all of them.
-    is_dropped: bool,
+pub struct Ran {
+    pub graph: Graph,
+    pub refused: Vec<(usize, Refusal)>,
+    /// How many were left out, since they were not agreed.
+    pub not_agreed: usize,
+    /// A ticket that was refused or not agreed dropped all of them.
+    pub is_dropped: bool,
 }
 
 /// Runs the tickets on a copy of the graph; with all or nothing, up to the first that is refused.
@@ -57,13 +67,13 @@ fn run_list(sender: Sender, before: &Graph, tickets: &[Ticket], is_all_or_nothin
         refused.extend(of_piece.into_iter().map(|(place, refusal)| (done + place, refusal)));
         if is_all_or_nothing && !refused.is_empty() {
             progress.end();
-            return Ran { graph: before.clone(), refused, is_dropped: true };
+            return Ran { graph: before.clone(), refused, not_agreed: 0, is_dropped: true };
         }
         done += piece.len();
         progress.show(done);
     }
     progress.end();
-    Ran { graph, refused, is_dropped: false }
+    Ran { graph, refused, not_agreed: 0, is_dropped: false }
 }
 
 /// Runs a piece of the list; answers the places in it that were refused.
@@ -81,30 +91,41 @@ fn run_piece(
     answers.filter_map(|(place, answer)| answer.err().map(|refusal| (place, refusal))).collect()
 }
 
-/// A line for each refused ticket, and another where there is more to say of it.
+/// What is said of all refused tickets.
 fn report_refused(source: &Source, ran: &Ran, mut explainer: Explainer) -> String {
     let mut text = String::new();
     for &(place, refusal) in &ran.refused {
-        let given = &source.given[place];
-        let line = given.line.map(|line| format!("line {line}: ")).unwrap_or_default();
-        text += &format!("{line}{}: {refusal}\n", given.words);
-        if let Some(more) = explainer.explain(place, refusal) {
-            text += &format!("{INDENT}{more}\n");
-        }
+        text += &say_refused(&source.given[place], refusal, explainer.explain(place, refusal));
     }
     text
 }
 
+/// A line for a refused ticket, and another where there is more to say of it.
+pub fn say_refused(given: &Given, refusal: Refusal, more: Option<String>) -> String {
+    let line = format!("{}{}: {refusal}\n", given.label(), given.words);
+    line + &more.map(|more| format!("{INDENT}{more}\n")).unwrap_or_default()
+}
+
 /// How many tickets were accepted and refused, and what they changed.
 fn report_sum(source: &Source, before: &Graph, ran: &Ran) -> String {
-    let (all, refused) = (source.given.len(), ran.refused.len());
-    let sum = match ran.is_dropped {
-        true => "nothing applied, since one was refused".to_owned(),
-        false => format!("{} accepted, {} refused", grouped(all - refused), grouped(refused)),
-    };
+    let all = source.given.len();
     let diff = before.diff(&ran.graph);
     let (added, removed) = (count(diff.only_there.len(), "fact"), grouped(diff.only_here.len()));
-    format!("{}: {sum}; {added} added, {removed} removed\n", count(all, "ticket"))
+    format!("{}: {}; {added} added, {removed} removed\n", count(all, "ticket"), sum_of(all, ran))
+}
+
+/// The sum of so many tickets; how many were not agreed is said only of some.
+fn sum_of(all: usize, ran: &Ran) -> String {
+    let (refused, not_agreed) = (ran.refused.len(), ran.not_agreed);
+    let accepted = grouped(all - refused - not_agreed);
+    match (ran.is_dropped, not_agreed) {
+        (true, 0) => "nothing applied, since one was refused".to_owned(),
+        (true, _) => "nothing applied, since one was not agreed".to_owned(),
+        (false, 0) => format!("{accepted} accepted, {} refused", grouped(refused)),
+        (false, _) => {
+            format!("{accepted} accepted, {} refused, {} not agreed", grouped(refused), grouped(not_agreed))
+        }
+    }
 }
 
 /// The new names, so that a misspelt one is seen; nothing if there is none.

@@ -53,8 +53,10 @@ fn apply() -> Command {
         .arg(positional("IMAGE", "The image"))
         .arg(words("The words of one ticket, e.g. insert subclass Pump Machine"))
         .arg(file("Read the tickets from a file, one a line; - is standard input"))
-        .arg(flag("all-or-nothing", "Leave the files as they were if a ticket is refused"))
+        .arg(flag("all-or-nothing", "Leave the files as they were if a ticket is refused or not agreed"))
         .arg(flag("operator", "Run operators' tickets: individual, literal, member and value alone"))
+        .arg(ask())
+        .arg(flag("yes", "With --ask: agree to every ticket, without a question").requires("ask"))
         .arg(names())
         .group(ArgGroup::new("tickets").args(["WORD", "file"]).required(true))
 }
@@ -173,6 +175,12 @@ fn file(help: &'static str) -> Arg {
 
 fn output() -> Arg {
     path("output", "FILE", "Write to a file instead of standard output").short('o')
+}
+
+/// The library shows what a ticket of anyone would do; operators have no such call.
+fn ask() -> Arg {
+    flag("ask", "Show the facts that each ticket would add and remove, and ask before it is run")
+        .conflicts_with("operator")
 }
 
 fn ids() -> Arg {

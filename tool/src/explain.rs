@@ -7,12 +7,17 @@ use crate::tickets::{Source, Understood};
 use crate::unknown::{Said, Unknown};
 use vimelosa_host::{Asked, Fact, Graph, Kind, Refusal, Ticket};
 
+/// What is said where a ticket would no longer do what was shown.
+const SEE_AGAIN: &str = "Run the command again to see what it would do now.";
+
 /// A list of tickets, whose they are, and the graph that it is run on.
 pub struct Explainer<'a> {
     sender: Sender,
     source: &'a Source,
     understood: &'a Understood,
-    before: &'a Graph,
+    /// The place of the first ticket that is run on the graph.
+    start: usize,
+    before: Graph,
     run: Option<Run<'a>>,
     classes: Option<Unknown<'a>>,
     properties: Option<Unknown<'a>>,
@@ -23,16 +28,25 @@ impl<'a> Explainer<'a> {
         sender: Sender,
         source: &'a Source,
         understood: &'a Understood,
-        before: &'a Graph,
+        before: Graph,
     ) -> Explainer<'a> {
-        Explainer { sender, source, understood, before, run: None, classes: None, properties: None }
+        let (run, classes, properties) = (None, None, None);
+        Explainer { sender, source, understood, start: 0, before, run, classes, properties }
+    }
+
+    /// Leaves out the ticket at a place: those after it are run on the graph that it found.
+    pub fn leave_out(&mut self, place: usize, found: &Graph) {
+        (self.start, self.before) = (place + 1, found.clone());
+        (self.run, self.classes, self.properties) = (None, None, None);
     }
 
     /// A sentence on the refused ticket at a place; nothing where the refusal's own says all. Places are
     /// asked for in ascending order.
     pub fn explain(&mut self, place: usize, refusal: Refusal) -> Option<String> {
-        if refusal == Refusal::NotForOperators {
-            return Some(say_kinds());
+        match refusal {
+            Refusal::NotForOperators => return Some(say_kinds()),
+            Refusal::OutOfDate => return Some(SEE_AGAIN.to_owned()),
+            _ => {}
         }
         let asked = match self.understood.tickets[place].asks() {
             Ok(Asked::Insert(fact)) => fact,
@@ -53,8 +67,8 @@ impl<'a> Explainer<'a> {
 
     /// What the ticket at a place finds. The list is run when it is first needed.
     fn found_at(&mut self, place: usize) -> &Graph {
-        let (sender, tickets, before) = (self.sender, &self.understood.tickets, self.before);
-        self.run.get_or_insert_with(|| Run::of(sender, tickets, before)).found_at(place)
+        let Explainer { sender, understood, start, before, run, .. } = self;
+        run.get_or_insert_with(|| Run::of(*sender, &understood.tickets, *start, before)).found_at(place)
     }
 
     /// The first property that the ticket at a place uses and does not find.
@@ -71,8 +85,8 @@ impl<'a> Explainer<'a> {
 
     /// On a class or a property that is not there.
     fn say_unknown(&mut self, kind: Kind, place: usize, id: u8) -> String {
-        let Explainer { sender, source, understood, before, run, classes, properties } = self;
-        let run = run.get_or_insert_with(|| Run::of(*sender, &understood.tickets, before));
+        let Explainer { sender, source, understood, start, before, run, classes, properties } = self;
+        let run = run.get_or_insert_with(|| Run::of(*sender, &understood.tickets, *start, before));
         let unknown = if kind == Kind::Class { classes } else { properties };
         let names = &understood.names;
         let unknown = unknown.get_or_insert_with(|| Unknown::of(kind, run, names));
@@ -109,7 +123,7 @@ fn say_kinds() -> String {
 pub struct Run<'a> {
     pub sender: Sender,
     pub tickets: &'a [Ticket],
-    /// Whether each ticket is accepted.
+    /// Whether each ticket is accepted; of those before the start nothing is said.
     pub accepted: Vec<bool>,
     /// What the whole list leaves.
     left: Graph,
@@ -119,10 +133,11 @@ pub struct Run<'a> {
 }
 
 impl<'a> Run<'a> {
-    fn of(sender: Sender, tickets: &'a [Ticket], before: &Graph) -> Run<'a> {
+    fn of(sender: Sender, tickets: &'a [Ticket], start: usize, before: &Graph) -> Run<'a> {
         let (found, mut left) = (before.clone(), before.clone());
-        let accepted = sender.apply_all(&mut left, tickets).iter().map(Result::is_ok).collect();
-        Run { sender, tickets, accepted, left, found, place: 0 }
+        let mut accepted = vec![false; start];
+        accepted.extend(sender.apply_all(&mut left, &tickets[start..]).iter().map(Result::is_ok));
+        Run { sender, tickets, accepted, left, found, place: start }
     }
 
     /// What the ticket at a place finds; no place before the last one is asked for.

@@ -5,7 +5,7 @@ use std::{fmt, io};
 /// Exit status: done.
 pub const DONE: u8 = 0;
 
-/// Exit status: a ticket, an image or a text was refused.
+/// Exit status: a ticket, an image or a text was refused, or a ticket not agreed.
 pub const REFUSED: u8 = 1;
 
 /// Exit status: the words of the command, or a file, cannot be used.

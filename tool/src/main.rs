@@ -5,6 +5,7 @@
 
 mod apply;
 mod args;
+mod ask;
 mod check;
 mod convert;
 mod diff;

@@ -15,6 +15,13 @@ pub struct Given {
     pub line: Option<usize>,
 }
 
+impl Given {
+    /// Its line, before what is said of it.
+    pub fn label(&self) -> String {
+        self.line.map(|line| format!("line {line}: ")).unwrap_or_default()
+    }
+}
+
 /// All tickets that a command was given, and the name of where they come from.
 pub struct Source {
     pub given: Vec<Given>,

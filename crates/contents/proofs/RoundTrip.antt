@@ -10,16 +10,15 @@ use lib.ListN.{length, take, drop}
 use lib.Seq.{take-at}
 use borrow.Author.Tests.{not-false}
 use Rattle.rdfs.specs.Numbers.{Numbers, Sound, kindCount}
-use Rattle.rdfs.specs.Lists.{_∈_, here, there, Ascending, concatMap, member}
+use Rattle.rdfs.specs.Lists.{_∈_, here, there, Ascending, concatMap, member, sameList}
 use Rattle.rdfs.specs.Facts.{Fact, made}
 use Rattle.rdfs.specs.Words.{isFact, laidOut, filled, fact}
-use Rattle.rdfs.specs.Orders.{sameBytes}
 use Rattle.rdfs.proofs.lists.Tests.{Tests, and-both, both-and, differs}
 use Rattle.rdfs.proofs.lists.ListLaws.{in-cons, none-in, in-filter, in-concatMap}
 use Rattle.rdfs.proofs.words.FactLaws.{in-member}
 use Rattle.rdfs.proofs.lists.Filters.{filter-all}
 use Rattle.rdfs.proofs.words.Digits.{word-some}
-use Rattle.rdfs.proofs.register.Perms.{bytes-eq, bytes-refl}
+use Rattle.rdfs.proofs.lists.SameList.{same-list-eq, same-list-refl}
 use Rattle.rdfs.proofs.words.LaidOut.{laid-is-fact, laid-ascending, shape-laid}
 use Rattle.table.proofs.TestAnswers.{is-true, is-false}
 use Rattle.contents.specs.ImageForm.{Form, Proper, factSize, kinds}
@@ -83,9 +82,9 @@ module _ (N : Numbers) (F : Form) (s : Sound N) (proper : Proper F) (l : List �
     pub written-well : malformed N F image ≡ false
     unfolding malformed
     written-well =
-        ap (λ m. not (sameBytes image (imageOf N F m) && laidOut N 1 m)) words-again
-        ∙ ap not (is-true {b = sameBytes image image && laidOut N 1 l} (both-and (sameBytes image image) (laidOut N 1 l)
-        (bytes-refl image) (h .laid)))
+        ap (λ m. not (sameList image (imageOf N F m) && laidOut N 1 m)) words-again
+        ∙ ap not (is-true {b = sameList image image && laidOut N 1 l} (both-and (sameList image image) (laidOut N 1 l)
+        (same-list-refl image) (h .laid)))
 
     -- The body of a kind in the image is the ids of that kind's facts, in order.
     pub body-ids : (k : ℕ) → k ∈ kinds F → take (bodySize N F image k) (drop (bodyStart N F image k) image) ≡ bodyOf N F l k
@@ -109,17 +108,17 @@ pub read-well : (N : Numbers) (F : Form) (bytes : List ℕ) → malformed N F by
 unfolding malformed
 read-well N F bytes e =
     let l : List ℕ = wordsOf N F bytes in
-    let r = and-both (sameBytes bytes (imageOf N F l)) (laidOut N 1 l)
-    (subst T (sym (not-false (sameBytes bytes (imageOf N F l) && laidOut N 1 l) e)) tt) in
-    (bytes-eq bytes (imageOf N F l) (r .0), r .1)
+    let r = and-both (sameList bytes (imageOf N F l)) (laidOut N 1 l)
+    (subst T (sym (not-false (sameList bytes (imageOf N F l) && laidOut N 1 l) e)) tt) in
+    (same-list-eq bytes (imageOf N F l) (r .0), r .1)
 
 pub well-read : (N : Numbers) (F : Form) (bytes : List ℕ) → bytes ≡ imageOf N F (wordsOf N F bytes)
     → T (laidOut N 1 (wordsOf N F bytes)) → malformed N F bytes ≡ false
 unfolding malformed
 well-read N F bytes e t =
     let l : List ℕ = wordsOf N F bytes in
-    let same : T (sameBytes bytes (imageOf N F l)) = subst (λ m. T (sameBytes bytes m)) e (bytes-refl bytes) in
-    ap not (is-true {b = sameBytes bytes (imageOf N F l) && laidOut N 1 l} (both-and (sameBytes bytes (imageOf N F l))
+    let same : T (sameList bytes (imageOf N F l)) = subst (λ m. T (sameList bytes m)) e (same-list-refl bytes) in
+    ap not (is-true {b = sameList bytes (imageOf N F l) && laidOut N 1 l} (both-and (sameList bytes (imageOf N F l))
     (laidOut N 1 l) same t))
 
 -- So they are well formed exactly if the contents are right and the words laid out.

@@ -6,10 +6,9 @@ use mathlib.Core.List.{List, [], _∷_}
 use lib.Dec.{T}
 use lib.ListN.{length, take, drop}
 use Rattle.rdfs.specs.Numbers.{Numbers}
-use Rattle.rdfs.specs.Lists.{_∈_, concatMap, member}
+use Rattle.rdfs.specs.Lists.{_∈_, concatMap, member, sameList}
 use Rattle.rdfs.specs.Facts.{made}
 use Rattle.rdfs.specs.Words.{word, laidOut, filled}
-use Rattle.rdfs.specs.Orders.{sameBytes}
 use Rattle.contents.specs.ImageForm.{Form, factSize, entryAt, kinds, fromBytes}
 use Rattle.contents.specs.Image.{factKind, imageOf}
 
@@ -58,7 +57,7 @@ wordsOf N F bytes = concatMap (wordsIn N F bytes) (kinds F)
 -- 12: the bytes are not the image of facts, ascending, none twice.
 unfoldable pub malformed : Numbers → Form → List ℕ → Bool
 malformed N F bytes = let l : List ℕ = wordsOf N F bytes in
-    not (sameBytes bytes (imageOf N F l) && laidOut N 1 l)
+    not (sameList bytes (imageOf N F l) && laidOut N 1 l)
 
 -- The bytes have no body of kind k to hand out.
 abbrev pub bodiless : Numbers → Form → List ℕ → ℕ → Bool

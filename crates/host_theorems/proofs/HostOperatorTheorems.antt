@@ -1,10 +1,9 @@
 -- What is proved of the host's calls with operators' tickets alone: with an operator's kind the call is the plain one, and the
 -- graphs put out have the facts of the other kinds that the image given has. Assumes nothing.
 use Prim.Native.Nat.{ℕ}
-use mathlib.Core.Path.{_≡_, refl, sym, ap, _∙_}
-use mathlib.Core.Bool.{true, false, cond}
+use mathlib.Core.Path.{_≡_, refl, sym, ap, subst, _∙_}
+use mathlib.Core.Bool.{true, false}
 use mathlib.Core.List.{List, [], _∷_}
-use lib.Dec.{eqb}
 use lib.ListN.{length, take}
 use Rattle.rdfs.specs.Numbers.{product, recordLength, operatorKinds}
 use Rattle.rdfs.specs.Lists.{_∈_}
@@ -15,12 +14,11 @@ use Rattle.rdfs.specs.Operators.{others}
 use Rattle.rdfs.proofs.OperatorTheorems.{operators-as-plain, operators-keep-others}
 use Rattle.rdfs.proofs.Theorems.{product-sound}
 use Rattle.list_form.proofs.Runs.{as-runs}
-use Rattle.writing.specs.WritePromise.{writeAnswer, writeLength, writeBytes}
-use Rattle.reading.specs.ReadPromise.{readAnswer, readWords, ReadPromise}
+use Rattle.reading.specs.ReadPromise.{readWords, ReadPromise}
 use Rattle.exchange.specs.ToText.{room}
 use Rattle.exchange.proofs.Between.{read-table}
-use Rattle.packing.specs.Packed.{packed, answerIn, lengthIn, refusedElse}
-use Rattle.host_ticket.specs.HostTicket.{applied, hostAnswer, hostOutput, HostPromise, OperatorHostPromise}
+use Rattle.packing.specs.Packed.{answerIn, lengthIn}
+use Rattle.host_ticket.specs.HostTicket.{applied, HostPromiseOf, HostPromise, OperatorHostPromise}
 use Rattle.host_list.specs.HostList.{ran, OperatorHostListPromise}
 use Rattle.host_theorems.proofs.Saved.{accepted}
 use Rattle.host_theorems.proofs.HostTheorems.{host-output-reads-back}
@@ -32,23 +30,12 @@ module _ (image ticket : List ℕ) (k : decoded ticket .kind ∈ operatorKinds) 
   unfolding applied
   same-applied = operators-as-plain product (readWords room image) ticket k
 
-  same-answer : (output : List ℕ) → hostAnswer true image ticket output ≡ hostAnswer false image ticket output
-  unfolding hostAnswer
-  same-answer output = ap (λ a. refusedElse (readAnswer room image) (refusedElse (a .number)
-      (refusedElse (writeAnswer (a .table) output) (packed 0 (a .added) (a .removed) (writeLength (a .table) output)))))
-      same-applied
-
-  same-output : (output : List ℕ) → hostOutput true image ticket output ≡ hostOutput false image ticket output
-  unfolding hostOutput
-  same-output output = ap (λ a. cond (eqb (readAnswer room image) 0) (cond (eqb (a .number) 0) (writeBytes (a .table) output)
-      output) output) same-applied
-
   pub host-operator-as-plain : (output : List ℕ) (r : ℕ) (v : List ℕ)
       → (OperatorHostPromise image ticket output r v → HostPromise image ticket output r v)
       × (HostPromise image ticket output r v → OperatorHostPromise image ticket output r v)
   host-operator-as-plain output r v = (
-    (λ p. (p .0 ∙ same-answer output, p .1 ∙ same-output output)),
-    (λ p. (p .0 ∙ sym (same-answer output), p .1 ∙ sym (same-output output))),
+    subst (λ a. HostPromiseOf image output a r v) same-applied,
+    subst (λ a. HostPromiseOf image output a r v) (sym same-applied),
   )
 
 -- Whatever is put out, cut to the length answered, is read into any table u of 2,048 words as words w with the facts of the other

@@ -17,7 +17,7 @@ use Rattle.writing.proofs.WriteCall.{table-writing, write-done}
 use Rattle.reading.specs.ReadPromise.{readAnswer, readWords}
 use Rattle.exchange.specs.ToText.{room}
 use Rattle.packing.specs.Packed.{packed, answerIn, lengthIn, refusedElse}
-use Rattle.host_ticket.specs.HostTicket.{applied, hostAnswer}
+use Rattle.host_ticket.specs.HostTicket.{applied, hostNumber, hostAnswer}
 use Rattle.host_theorems.specs.HostCalls.{HostCall, Called, imageAfter, CalledEach, imageAfterAll}
 use Rattle.exchange.proofs.Between.{refused-keeps, passed-leaves}
 use Rattle.packing.proofs.Refused.{refused-is, passed-is}
@@ -57,7 +57,7 @@ module _ (operator : Bool) (w : List ℕ) (table : Table product w) (long : leng
       sym (write-done (s .table) output t fits _ refl _ refl .0)
 
   answers : answerIn (hostAnswer operator image ticket output) ≡ s .number
-  unfolding hostAnswer
+  unfolding hostNumber
   answers =
       let counts : ℕ = packed 0 (s .added) (s .removed) (writeLength (s .table) output) in
       let later : ℕ = refusedElse (writeAnswer (s .table) output) counts in

@@ -31,7 +31,7 @@ use Rattle.image.proofs.ImageTheorems.{image-reads-back, table-reads-back}
 use Rattle.packing.specs.Packed.{sixteenBits, packed, answerIn, addedIn, removedIn, lengthIn}
 use Rattle.exchange.specs.ToText.{room}
 use Rattle.packing.specs.Packed.{refusedElse}
-use Rattle.host_ticket.specs.HostTicket.{applied, hostAnswer, hostOutput}
+use Rattle.host_ticket.specs.HostTicket.{applied, hostNumber, hostBytes, hostAnswer, hostOutput}
 use Rattle.operators.proofs.Senders.{as-accepted, as-number}
 use Rattle.exchange.proofs.Between.{passed-leaves, read-table}
 use Rattle.packing.proofs.Refused.{refused-is, passed-is}
@@ -97,6 +97,52 @@ reads-back {left} table long u h e n w q =
       q .1 ∙ (ap (readWords u) e ∙ sym (table-reads-back left u passes size (long ∙ sym h))),
     )
 
+-- A refusal of writing fits its field.
+write-small : (table output : List ℕ) → writeAnswer table output < sixteenBits
+write-small table output =
+    table-small table _ (else-small (ltb (length output) (length (tableImage table))) 13 0 (lit< tt) (lit< tt))
+
+-- So does the step's number.
+pub step-small : (w ticket : List ℕ) → step product w ticket .number < sixteenBits
+step-small w ticket = subst (λ n. n < sixteenBits) (sym (step-number product w ticket))
+    (first-small (tests product w ticket) 0 tt (lit< tt))
+
+-- No more facts come or go than a table of 2,048 words has.
+pub counts-fit : (w ticket : List ℕ) → Table product w → length w ≡ product .most → step product w ticket .number ≡ 0
+    → (step product w ticket .added < sixteenBits) × (step product w ticket .removed < sixteenBits)
+counts-fit w ticket t long number =
+    let ws : List ℕ = words product (new product w ticket) in
+    let l = accepted-leaves product w ticket number in
+    let fits : length ws ≤ length w =
+    room-fits product w (new product w ticket) (passed product w ticket (sym (step-number product w ticket) ∙ number) .room) in (
+      omega (arith, l .added, filter-split (λ x. not (member (filled w) x)) ws, fits, long),
+      omega (
+        arith,
+        l .removed,
+        filter-split (λ x. not (member ws x)) (filled w),
+        filled-within product w (t .laid),
+        long,
+      ),
+    )
+
+-- A call with one ticket, whatever the ticket's answer, refused by reading, by the ticket or by writing.
+pub refused-of : (image output : List ℕ) (s : Answer) → s .number < sixteenBits
+    → (answerIn (hostNumber image output s) ≡ 0 → ⊥) → Kept output (hostNumber image output s) (hostBytes image output s)
+unfolding hostNumber hostBytes
+refused-of image output s small =
+    let n : ℕ = writeAnswer (s .table) output in
+    let long : ℕ = writeLength (s .table) output in
+    let counts : ℕ = packed 0 (s .added) (s .removed) long in
+    let later : ℕ = refusedElse n counts in
+    let out : List ℕ = tableImage (s .table) ++ drop (length (tableImage (s .table))) output in
+    let left : List ℕ = writeBytes (s .table) output in
+    let by-writing =
+    kept-else (eqb n 0) n counts out output (write-small (s .table) output)
+    (λ h. absurd (h (packed-answer (s .added) (s .removed) long))) in
+    let by-ticket = kept-else (eqb (s .number) 0) (s .number) later left output small by-writing in
+    kept-else (eqb (readAnswer room image) 0) (readAnswer room image) (refusedElse (s .number) later)
+    (cond (eqb (s .number) 0) left output) output (read-small image) by-ticket
+
 module _ (operator : Bool) (image ticket output : List ℕ) where
   abbrev s : Answer
   s = applied operator image ticket
@@ -114,21 +160,16 @@ module _ (operator : Bool) (image ticket output : List ℕ) where
   pub number-small : s .number < sixteenBits
   unfolding applied
   number-small = ⊎-elim (λ e. subst (λ n. n < sixteenBits) (sym e) (lit< tt))
-      (λ e. subst (λ n. n < sixteenBits) (sym (e ∙ step-number product w ticket))
-      (first-small (tests product w ticket) 0 tt (lit< tt))) (as-number product w ticket operator)
-
-  write-small : writeAnswer (s .table) output < sixteenBits
-  write-small =
-      table-small (s .table) _ (else-small (ltb (length output) (length (tableImage (s .table)))) 13 0 (lit< tt) (lit< tt))
+      (λ e. subst (λ n. n < sixteenBits) (sym e) (step-small w ticket)) (as-number product w ticket operator)
 
   pub accepted : answerIn (hostAnswer operator image ticket output) ≡ 0 → Accepted
-  unfolding hostAnswer
+  unfolding hostNumber
   accepted e =
       let counts : ℕ = packed 0 (s .added) (s .removed) (writeLength (s .table) output) in
       let later : ℕ = refusedElse (writeAnswer (s .table) output) counts in
       let a = accepted-passes (readAnswer room image) (refusedElse (s .number) later) (read-small image) e in
       let b = accepted-passes (s .number) later number-small (ap answerIn (sym (a .1)) ∙ e) in
-      let c = accepted-passes (writeAnswer (s .table) output) counts write-small (ap answerIn (sym (a .1 ∙ b .1)) ∙ e) in
+      let c = accepted-passes (writeAnswer (s .table) output) counts (write-small (s .table) output) (ap answerIn (sym (a .1 ∙ b .1)) ∙ e) in
       record { read = a .0; number = b .0; write = c .0; answer = a .1 ∙ (b .1 ∙ c .1) }
 
   pub left-length : length (s .table) ≡ product .most
@@ -136,34 +177,19 @@ module _ (operator : Bool) (image ticket output : List ℕ) where
   left-length = as-keeps product product-sound operator .long w ticket ∙ read-length room image
 
   module _ (a : Accepted) where
-    -- No more facts come or go than a table has words.
     counts-small : (s .added < sixteenBits) × (s .removed < sixteenBits)
     unfolding applied
     counts-small =
-        let long : length w ≡ product .most = read-length room image in
-        let ws : List ℕ = words product (new product w ticket) in
         let plain = as-accepted product w ticket operator (a .number) in
         let number : step product w ticket .number ≡ 0 = sym (ap (λ x. x .number) plain) ∙ a .number in
-        let l = accepted-leaves product w ticket number in
-        let fits : length ws ≤ length w =
-        room-fits product w (new product w ticket) (passed product w ticket (sym (step-number product w ticket)
-        ∙ number) .room) in
-        let laid = read-table image 0 (sym (a .read)) refl refl .laid in (
-          omega (arith, ap (λ x. x .added) plain, l .added, filter-split (λ x. not (member (filled w) x)) ws, fits, long),
-          omega (
-            arith,
-            ap (λ x. x .removed) plain,
-            l .removed,
-            filter-split (λ x. not (member ws x)) (filled w),
-            filled-within
-                product w laid,
-            long,
-          ),
+        let small = counts-fit w ticket (read-table image 0 (sym (a .read)) refl refl) (read-length room image) number in (
+          subst (λ n. n < sixteenBits) (sym (ap (λ x. x .added) plain)) (small .0),
+          subst (λ n. n < sixteenBits) (sym (ap (λ x. x .removed) plain)) (small .1),
         )
 
     pub saved-image : take (lengthIn (hostAnswer operator image ticket output)) (hostOutput operator image ticket output)
         ≡ tableImage (s .table)
-    unfolding hostOutput
+    unfolding hostBytes
     saved-image =
         let n : ℕ = writeLength (s .table) output in
         let size : lengthIn (hostAnswer operator image ticket output) ≡ n =
@@ -177,16 +203,4 @@ module _ (operator : Bool) (image ticket output : List ℕ) where
   -- Refused by reading, by the ticket or by writing.
   pub refused : (answerIn (hostAnswer operator image ticket output) ≡ 0 → ⊥)
       → Kept output (hostAnswer operator image ticket output) (hostOutput operator image ticket output)
-  unfolding hostAnswer hostOutput
-  refused =
-      let n : ℕ = writeAnswer (s .table) output in
-      let long : ℕ = writeLength (s .table) output in
-      let counts : ℕ = packed 0 (s .added) (s .removed) long in
-      let later : ℕ = refusedElse n counts in
-      let out : List ℕ = tableImage (s .table) ++ drop (length (tableImage (s .table))) output in
-      let left : List ℕ = writeBytes (s .table) output in
-      let by-writing =
-      kept-else (eqb n 0) n counts out output write-small (λ h. absurd (h (packed-answer (s .added) (s .removed) long))) in
-      let by-ticket = kept-else (eqb (s .number) 0) (s .number) later left output number-small by-writing in
-      kept-else (eqb (readAnswer room image) 0) (readAnswer room image) (refusedElse (s .number) later)
-      (cond (eqb (s .number) 0) left output) output (read-small image) by-ticket
+  refused = refused-of image output s number-small

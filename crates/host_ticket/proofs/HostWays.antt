@@ -1,4 +1,5 @@
--- The ways through a host's call with one ticket: refused by reading, by the ticket, by writing, and done. Assumes nothing.
+-- The ways through a host's call with one ticket, whatever the ticket's answer s: refused by reading, by the ticket, by writing,
+-- and done. Assumes nothing.
 use Prim.Native.Nat.{ℕ}
 use mathlib.Core.Path.{_≡_, refl, sym, ap, subst, _∙_}
 use mathlib.Core.Bool.{Bool, cond}
@@ -17,7 +18,7 @@ use Rattle.exchange.specs.ToText.{room}
 use Rattle.exchange.proofs.Between.{refused-keeps, passed-leaves, read-table}
 use Rattle.packing.proofs.Refused.{refused-is, passed-is}
 use Rattle.packing.specs.Packed.{packed, refusedElse}
-use Rattle.host_ticket.specs.HostTicket.{applied, hostAnswer, hostOutput, HostPromiseAs}
+use Rattle.host_ticket.specs.HostTicket.{applied, hostNumber, hostBytes, HostPromiseOf}
 
 -- Words that a ticket leaves are a consistent table, as those that were read are.
 pub applied-table : (operator : Bool) (image ticket : List ℕ) → readAnswer room image ≡ 0
@@ -31,17 +32,20 @@ pub left-table : (operator : Bool) {w v : List ℕ} (ticket : List ℕ) → Tabl
 left-table operator {w} ticket t a did =
     subst (Table product) (sym (did .words)) (as-keeps product product-sound operator .rules w ticket t)
 
-module _ (operator : Bool) (image ticket output : List ℕ) where
-  abbrev s : Answer
-  s = applied operator image ticket
+-- The ticket's answer on the words that were read.
+pub applied-from : (operator : Bool) {w v : List ℕ} (image ticket : List ℕ) → w ≡ readWords room image → (a : Applied)
+    → Answered a v (stepAs operator product w ticket) → Answered a v (applied operator image ticket)
+unfolding applied
+applied-from operator {v = v} image ticket from a did = subst (λ x. Answered a v (stepAs operator product x ticket)) from did
 
+module _ (image output : List ℕ) (s : Answer) where
   -- The refusals after reading, and the end.
   abbrev later : ℕ
   later = refusedElse (writeAnswer (s .table) output) (packed 0 (s .added) (s .removed) (writeLength (s .table) output))
 
   pub way-unread : (n r : ℕ) → n ≡ readAnswer room image → (n ≡ 0 → ⊥) → r ≡ packed n 0 0 0
-      → HostPromiseAs operator image ticket output r output
-  unfolding hostAnswer hostOutput
+      → HostPromiseOf image output s r output
+  unfolding hostNumber hostBytes
   way-unread n r e h p =
       let no : readAnswer room image ≡ 0 → ⊥ = λ z. h (e ∙ z) in (
         p ∙ (ap (λ m. packed m 0 0 0) e ∙ sym (refused-is (readAnswer room image) _ no)),
@@ -49,23 +53,18 @@ module _ (operator : Bool) (image ticket output : List ℕ) where
       )
 
   -- Read; then the ticket's answer a, with the words v.
-  module _ (read : readAnswer room image ≡ 0) {w v : List ℕ} (from : w ≡ readWords room image) (a : Applied)
-      (did : Answered a v (stepAs operator product w ticket)) where
-    same : Answered a v s
-    unfolding applied
-    same = subst (λ x. Answered a v (stepAs operator product x ticket)) from did
-
-    read-answer : hostAnswer operator image ticket output ≡ refusedElse (s .number) later
-    unfolding hostAnswer
+  module _ (read : readAnswer room image ≡ 0) {v : List ℕ} (a : Applied) (same : Answered a v s) where
+    read-answer : hostNumber image output s ≡ refusedElse (s .number) later
+    unfolding hostNumber
     read-answer = passed-is (readAnswer room image) (refusedElse (s .number) later) read
 
-    read-output : hostOutput operator image ticket output ≡ cond (eqb (s .number) 0) (writeBytes (s .table) output) output
-    unfolding hostOutput
+    read-output : hostBytes image output s ≡ cond (eqb (s .number) 0) (writeBytes (s .table) output) output
+    unfolding hostBytes
     read-output = passed-leaves (readAnswer room image) (cond (eqb (s .number) 0) (writeBytes (s .table) output) output) output
         read
 
     pub way-unapplied : (r : ℕ) → (a .answer ≡ 0 → ⊥) → r ≡ packed (a .answer) 0 0 0
-        → HostPromiseAs operator image ticket output r output
+        → HostPromiseOf image output s r output
     way-unapplied r h p =
         let no : s .number ≡ 0 → ⊥ = λ z. h (same .number ∙ z) in (
           p ∙ (ap (λ m. packed m 0 0 0) (same .number) ∙ (sym (refused-is (s .number) later no) ∙ sym read-answer)),
@@ -78,10 +77,10 @@ module _ (operator : Bool) (image ticket output : List ℕ) where
       accepted : s .number ≡ 0
       accepted = sym (same .number) ∙ z
 
-      applied-answer : hostAnswer operator image ticket output ≡ later
+      applied-answer : hostNumber image output s ≡ later
       applied-answer = read-answer ∙ passed-is (s .number) later accepted
 
-      left : u ≡ hostOutput operator image ticket output
+      left : u ≡ hostBytes image output s
       left = eu ∙ (ap (λ x. writeBytes x output) (same .words)
           ∙ (sym (passed-leaves (s .number) (writeBytes (s .table) output) output accepted) ∙ sym read-output))
 
@@ -91,14 +90,14 @@ module _ (operator : Bool) (image ticket output : List ℕ) where
       abbrev counts : ℕ
       counts = packed 0 (s .added) (s .removed) (writeLength (s .table) output)
 
-      pub way-unwritten : (r : ℕ) → (n ≡ 0 → ⊥) → r ≡ packed n 0 0 0 → HostPromiseAs operator image ticket output r u
+      pub way-unwritten : (r : ℕ) → (n ≡ 0 → ⊥) → r ≡ packed n 0 0 0 → HostPromiseOf image output s r u
       way-unwritten r h p = (
         p ∙ (ap (λ m. packed m 0 0 0) written ∙ (sym (refused-is (writeAnswer (s .table) output) counts (λ q. h (written ∙ q)))
             ∙ sym applied-answer)),
         left,
       )
 
-      pub way-done : (r : ℕ) → n ≡ 0 → r ≡ packed 0 (a .added) (a .removed) l → HostPromiseAs operator image ticket output r u
+      pub way-done : (r : ℕ) → n ≡ 0 → r ≡ packed 0 (a .added) (a .removed) l → HostPromiseOf image output s r u
       way-done r q p =
           let long : l ≡ writeLength (s .table) output = el ∙ ap (λ x. writeLength x output) (same .words) in
           let filled : packed 0 (a .added) (a .removed) l ≡ counts = λ i. packed 0 (same .added i) (same .removed i) (long i) in

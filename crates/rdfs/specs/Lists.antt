@@ -35,6 +35,13 @@ any test (x ∷ l) = test x || any test l
 abbrev pub member : List ℕ → ℕ → Bool
 member l n = any (eqb n) l
 
+-- The same numbers in the same order.
+abbrev pub sameList : List ℕ → List ℕ → Bool
+sameList [] [] = true
+sameList [] (m ∷ k) = false
+sameList (n ∷ l) [] = false
+sameList (n ∷ l) (m ∷ k) = eqb n m && sameList l k
+
 -- How many members pass a test.
 abbrev pub count : {A : Type 0} → (A → Bool) → List A → ℕ
 count test [] = 0

@@ -1,24 +1,16 @@
 -- Lists of tickets: rearrangements, and the properties and classes that tickets use and make.
 use Prim.Native.Nat.{ℕ}
 use mathlib.Core.Path.{_≡_}
-use mathlib.Core.Bool.{Bool, true, false, _&&_}
 use mathlib.Core.Logic.{_⊎_}
 use mathlib.Core.List.{List, [], _∷_, _++_}
-use lib.Dec.{T, eqb}
-use Rattle.rdfs.specs.Lists.{_∈_, count}
+use lib.Dec.{T}
+use Rattle.rdfs.specs.Lists.{_∈_, count, sameList}
 use Rattle.rdfs.specs.Facts.{Fact, cl, pr}
 use Rattle.rdfs.specs.Tickets.{Ticket, decoded, inserts}
 
--- The same bytes.
-abbrev pub sameBytes : List ℕ → List ℕ → Bool
-sameBytes [] [] = true
-sameBytes [] (other ∷ m) = false
-sameBytes (byte ∷ l) [] = false
-sameBytes (byte ∷ l) (other ∷ m) = eqb byte other && sameBytes l m
-
 -- The same tickets, each as often.
 abbrev pub SameTickets : List (List ℕ) → List (List ℕ) → Type 0
-SameTickets l m = (ticket : List ℕ) → count (sameBytes ticket) l ≡ count (sameBytes ticket) m
+SameTickets l m = (ticket : List ℕ) → count (sameList ticket) l ≡ count (sameList ticket) m
 
 -- A ticket uses a property if it is PSub with it as a or b, PI with it as c, or Excl with it as a; it makes
 -- one if it is an insertion of kind 2 with it as a.

@@ -19,9 +19,12 @@ pub record Answer : Type 0 where
   pub removed : ℕ
   pub table : List ℕ
 
--- How many of the second list are not in the first.
+-- The members of the second list that are not in the first, in their order; and how many there are.
+abbrev pub newcomers : List ℕ → List ℕ → List ℕ
+newcomers old new = filter (λ n. not (member old n)) new
+
 abbrev pub besides : List ℕ → List ℕ → ℕ
-besides old new = length (filter (λ n. not (member old n)) new)
+besides old new = length (newcomers old new)
 
 -- The answer to a refused ticket.
 abbrev pub refusedWith : ℕ → List ℕ → Answer

@@ -47,7 +47,7 @@ pub fn print_lookup(table: &[Word], given: &[u8]) {
 }
 
 // What a ticket answered.
-fn print_applied(applied: Applied) {
+pub fn print_applied(applied: Applied) {
     print_answer(applied.answer);
     print_number(applied.added as usize);
     print_number(applied.removed as usize);

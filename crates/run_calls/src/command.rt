@@ -10,6 +10,8 @@ use crate::calls::print_operator;
 use crate::calls::print_operators;
 use crate::calls::print_write;
 use crate::damage::print_damage;
+use crate::previews::print_ask;
+use crate::previews::print_commit;
 use crate::tickets::print_records;
 use image::read;
 use script::bytes_in;
@@ -25,7 +27,7 @@ use script::words_in;
 use table::Word;
 use table_calls::fresh;
 
-// The names by their places among all names. The first seven have a number.
+// The names by their places among all names. The first nine have a number.
 const TABLE: usize = 0;
 
 const LIST: usize = 1;
@@ -38,30 +40,34 @@ const WRITE: usize = 5;
 
 const BODY: usize = 6;
 
-const FRESH: usize = 7;
+const ASK: usize = 7;
 
-const CHECK: usize = 8;
+const COMMIT: usize = 8;
 
-const LOOKUP: usize = 9;
+const FRESH: usize = 9;
 
-const APPLY: usize = 10;
+const CHECK: usize = 10;
 
-const OPERATOR: usize = 11;
+const LOOKUP: usize = 11;
 
-const READ: usize = 12;
+const APPLY: usize = 12;
 
-const FACTS: usize = 13;
+const OPERATOR: usize = 13;
 
-const WORDS: usize = 14;
+const READ: usize = 14;
 
-const KEEP: usize = 15;
+const FACTS: usize = 15;
 
-const BACK: usize = 16;
+const WORDS: usize = 16;
 
-const SAME: usize = 17;
+const KEEP: usize = 17;
+
+const BACK: usize = 18;
+
+const SAME: usize = 19;
 
 // How many there are.
-pub const NAMES: usize = 19;
+pub const NAMES: usize = 21;
 
 // The answer bytes that can be lent.
 const ANSWERS: usize = 2048;
@@ -96,6 +102,8 @@ fn run_numbered(name: usize, number: usize, given: &[u8], table: &mut [Word]) {
     match name {
         WRITE => print_write(table, number),
         BODY => print_body(number, given),
+        ASK => print_ask(table, number, given),
+        COMMIT => print_commit(table, number, given),
         _ => lend_answers(name, number, given, table),
     }
 }

@@ -24,8 +24,8 @@ fn run_named(line: &[u8], end: usize, words: &mut [Word], count: usize, kept: &m
     requires name { ⌜ end ≤ length (now line) ⌝ }
 {
     let name = find_name(
-        b"table list each records operators write body fresh check lookup apply operator read facts words \
-          keep back same damage",
+        b"table list each records operators write body ask commit fresh check lookup apply operator read \
+          facts words keep back same damage",
         &line[..end],
     );
     if name == NAMES {

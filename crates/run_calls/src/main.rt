@@ -17,6 +17,13 @@
 //     lookup WORD            the answer, and 1 if the word is present, else 0
 //     apply BYTES            the answer to the ticket, facts added, facts removed
 //     operator BYTES         the same by `apply_operator`
+//     ask NUMBER NUMBER BYTES
+//                            the same by `ask` with so many words in the added and in the removed run, at
+//                            most 2,048 each, ffffffff before the call; then the words of the added run, a
+//                            stroke, the words of the removed run
+//     commit NUMBER NUMBER WORDS BYTES
+//                            the same by `commit` with so many words in the added and in the removed run,
+//                            at most 2,048 each: the WORDS, those of the added run first
 //     list NUMBER BYTES      by `apply_list` with NUMBER answer bytes, at most 2,048, each ff before the
 //                            call: the answer, tickets accepted, tickets refused, the answer bytes
 //     each NUMBER BYTES      the same by `apply_each`
@@ -36,6 +43,7 @@ mod calls;
 mod command;
 mod damage;
 mod line;
+mod previews;
 mod rule;
 mod tickets;
 

@@ -23,6 +23,7 @@ pub use refusals::GUARDED;
 pub use refusals::INCONSISTENT;
 pub use refusals::MALFORMED;
 pub use refusals::NOT_FOR_OPERATORS;
+pub use refusals::OUT_OF_DATE;
 pub use refusals::OUTSIDE_PROFILE;
 pub use refusals::SHORT_OUTPUT;
 pub use refusals::TOO_MANY;

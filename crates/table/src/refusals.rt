@@ -1,6 +1,6 @@
 // The refusals, each by its number: the only place of these numbers in code. docs/REFUSALS.md says who can
-// cause each and which calls give it; the definition of the same name says when. 0 is no refusal; 18 to 20
-// are free.
+// cause each and which calls give it; the definition of the same name says when. 0 is no refusal; 19 and
+// 20 are free.
 
 // 1: a table of no words or above the most.
 pub const BAD_SIZE: u8 = 1;
@@ -26,7 +26,7 @@ pub const CLASHING: u8 = 10;
 pub const TOO_MANY: u8 = 11;
 // 12: an image not of its form.
 pub const MALFORMED: u8 = 12;
-// 13: an output shorter than the image or the text.
+// 13: an output shorter than the image or the text, or a run shorter than the words that asking writes to it.
 pub const SHORT_OUTPUT: u8 = 13;
 // 14: fewer answer bytes than tickets.
 pub const FEW_ANSWERS: u8 = 14;
@@ -36,3 +36,5 @@ pub const OUTSIDE_PROFILE: u8 = 15;
 pub const UNKNOWN_CLASS: u8 = 16;
 // 17: an operator's ticket of a kind that is not for operators.
 pub const NOT_FOR_OPERATORS: u8 = 17;
+// 18: the runs that a ticket is committed with are not what it would do now.
+pub const OUT_OF_DATE: u8 = 18;

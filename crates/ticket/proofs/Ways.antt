@@ -4,7 +4,7 @@ use mathlib.Core.Path.{_≡_, refl, sym, ap, subst, _∙_}
 use mathlib.Core.Bool.{Bool, true, false}
 use mathlib.Core.List.{List, _++_}
 use native.Mathlib.Omega.{arith}
-use lib.Dec.{T, ltb→lt}
+use lib.Dec.{T, eqb, ltb→lt}
 use lib.ListN.{length, take, drop, replicate, length-append, length-drop}
 use lib.Seq.{take-append-seam}
 use Rattle.rdfs.specs.Numbers.{product}
@@ -33,7 +33,7 @@ use Rattle.insertion.specs.declared.put.Grown.{Grown}
 use Rattle.insertion.specs.declared.put.Grown.the-variants.{Facts as Grows, TooMany}
 use Rattle.ticket_form.specs.TicketForm.{recordOf, Asked}
 use Rattle.ticket.specs.Ready.{Ready, Possible}
-use Rattle.ticket.specs.Answered.{Stepped}
+use Rattle.ticket.specs.Answered.{Stepped, SteppedAs}
 use Rattle.ticket.specs.declared.step.Step.the-variants.{Facts, Refused}
 use Rattle.ticket.proofs.RefusedSteps.{
   formed-record,
@@ -54,6 +54,12 @@ fails e t = subst T e t
 -- The answers of the two lookups for what an insertion uses.
 pub known-by : {K : List Fact} {t : Ticket} → false ≡ unknownProperty K t → false ≡ unknownClass K t → Known K t
 known-by p c = record { property = fails (sym p); class = fails (sym c) }
+
+-- An insertion past these and the clash.
+pub possible-by : {w : List ℕ} {n k a b c : ℕ} → Ready w n 1 k a b c
+    → false ≡ unknownProperty (factsOf w) (ticketOf 1 k a b c) → false ≡ unknownClass (factsOf w) (ticketOf 1 k a b c)
+    → false ≡ lookupClash (factsOf w) (ticketOf 1 k a b c) → Possible w n k a b c
+possible-by r p u e = record { ready = r; known = known-by p u; free = sym e }
 
 -- Words that fill no more than the list they are padded in.
 padded-room : (l x : List ℕ) (n : ℕ) → x ≡ padded n l → length x ≡ n → length l ≤ n
@@ -157,19 +163,33 @@ no-room false e = absurd (omega (arith, e))
 
 -- What the growth of the table w to x says.
 module _ {w : List ℕ} {n k a b c : ℕ} (p : Possible w n k a b c) (x : List ℕ) where
+  over : (g : Grown) → g ≡ TooMany → GrowMeans w (ticketOf 1 k a b c) x g → length w < length (grownWords w k a b c)
+  over g f h = ltb→lt (length w) (length (grownWords w k a b c))
+      (no-room (tooMany product w (insertion (product .top) (factsOf w) (asked (ticketOf 1 k a b c))))
+      (subst (GrowMeans w (ticketOf 1 k a b c) x) f h .0))
+
+  -- There is no room; on a work table that is all.
+  pub way-lost : (g : Grown) → g ≡ TooMany → GrowMeans w (ticketOf 1 k a b c) x g
+      → SteppedAs false n (Refused 11) x (step product w (recordOf 1 k a b c))
+  way-lost g f h =
+      let d = way-too-many p (over g f h) in
+      record {
+        numbers = subst (λ y. Stepped n (Refused 11) y (step product w (recordOf 1 k a b c))) (d .words) d;
+        words = λ z. absurd (subst (λ m. T (eqb m 0)) (sym (d .number)) z);
+      }
+
   -- There is no room, and the saved words are put back.
   pub way-no-room : {s z : List ℕ} → s ≡ take n w → z ≡ padded (length x) s → (g : Grown) → g ≡ TooMany
       → GrowMeans w (ticketOf 1 k a b c) x g
       → Stepped n (Refused 11) z (step product w (recordOf 1 k a b c))
   way-no-room {s} saved back g f h =
       let q = subst (GrowMeans w (ticketOf 1 k a b c) x) f h in
-      let over = no-room (tooMany product w (insertion (product .top) (factsOf w) (asked (ticketOf 1 k a b c)))) (q .0) in
       let counted = ready-asked (p .ready) .table in
       let facts-saved : s ≡ filled w = saved ∙ counted-first counted in
       let again =
       back ∙ (ap (λ j. padded j s) (q .1) ∙ (ap (padded (length w)) facts-saved ∙ sym (laid-shape product w (counted .laid)))) in
       subst (λ y. Stepped n (Refused 11) y (step product w (recordOf 1 k a b c))) (sym again)
-      (way-too-many p (ltb→lt (length w) (length (grownWords w k a b c)) over))
+      (way-too-many p (over g f h))
 
   pub way-room : (g : Grown) (m : ℕ) → g ≡ Grows m → GrowMeans w (ticketOf 1 k a b c) x g → length x ≡ length w
       → Stepped n (Facts m) x (step product w (recordOf 1 k a b c))

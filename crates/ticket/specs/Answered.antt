@@ -1,7 +1,9 @@
 -- What the calls of this crate answer and leave, beside the plain register's answer.
 use Prim.Native.Nat.{ℕ, _-_, _≤_}
 use mathlib.Core.Path.{_≡_}
+use mathlib.Core.Bool.{Bool, _||_}
 use mathlib.Core.List.{List}
+use lib.Dec.{T, eqb}
 use Rattle.rdfs.specs.Numbers.{product}
 use Rattle.rdfs.specs.Register.{Answer, step}
 use Rattle.ticket.specs.declared.answer.Applied.{Applied}
@@ -14,6 +16,14 @@ pub record Answered (applied : Applied) (after : List ℕ) (answer : Answer) : T
   pub added : applied .added ≡ answer .added
   pub removed : applied .removed ≡ answer .removed
   pub words : after ≡ answer .table
+
+-- The words left are the register's; of a work table, which need not keep them, only if the ticket is accepted.
+abbrev pub Leaves : (keep : Bool) → (after : List ℕ) → Answer → Type 0
+Leaves keep after answer = T (keep || eqb (answer .number) 0) → after ≡ answer .table
+
+pub record AnsweredAs (keep : Bool) (applied : Applied) (after : List ℕ) (answer : Answer) : Type 0 where
+  pub numbers : Answered applied (answer .table) answer
+  pub words : Leaves keep after answer
 
 -- What `apply` promises, for all words of a table and all bytes of a ticket. The theorems on the call take
 -- this as their premise, and proofs/ApplyTied says that it is the contract in the source.
@@ -51,6 +61,11 @@ pub record Stepped (count : ℕ) (stepped : Step) (after : List ℕ) (answer : A
   pub removed : removedOf count stepped ≡ answer .removed
   pub words : after ≡ answer .table
   pub fits : Fits stepped
+
+pub record SteppedAs (keep : Bool) (count : ℕ) (stepped : Step) (after : List ℕ) (answer : Answer) : Type 0
+  where
+    pub numbers : Stepped count stepped (answer .table) answer
+    pub words : Leaves keep after answer
 
 -- The answer to a refused ticket.
 abbrev pub refusedAnswer : ℕ → Applied

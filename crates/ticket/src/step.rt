@@ -1,5 +1,6 @@
 // The inner steps: a ticket past the refusals that need no table, on a consistent table.
 ghost use mathlib.Core.Path.{_≡_};
+ghost use mathlib.Core.Bool.{false};
 ghost use Prim.Native.Nat.{_≤_};
 ghost use lib.ListN.{length};
 ghost use Rattle.rdfs.specs.Numbers.{product};
@@ -7,7 +8,7 @@ ghost use Rattle.rdfs.specs.Words.{padded};
 ghost use Rattle.rdfs.specs.Register.{step};
 ghost use Rattle.ticket_form.specs.TicketForm.{recordOf};
 ghost use Rattle.ticket.specs.Ready.{Ready, Possible};
-ghost use Rattle.ticket.specs.Answered.{Stepped};
+ghost use Rattle.ticket.specs.Answered.{Stepped, SteppedAs};
 use clash::clashes;
 use deletion::delete;
 use insertion::Grown;
@@ -77,11 +78,32 @@ fn insert_possible(table: &mut [Word], count: usize, k: Word, a: Word, b: Word, 
     insert_saving(table, &mut saved[..count], count, k, a, b, c)
 }
 
+// The same on a work table: nothing is saved, and where the new graph does not fit the words are anything.
+fn insert_unsaved(table: &mut [Word], count: usize, k: Word, a: Word, b: Word, c: Word) -> Step
+    requires ticket { ⌜ Possible (now table) count k a b c ⌝ }
+    ensures answer { λ r. ⌜ SteppedAs false count r (now (table .exit)) (step product (now (table .entry))
+        (recordOf 1 k a b c)) ⌝ }
+{
+    let grown = grow(table, count, k, a, b, c);
+    let Grown::Facts(after) = grown else {
+        return Step::Refused(TOO_MANY);
+    };
+    Step::Facts(after)
+}
+
 // An insertion. One that is refused with 9, 16 or 10, or whose asked facts are all there, costs a few lookups
 // and saves nothing.
-pub fn run_insertion(table: &mut [Word], count: usize, k: Word, a: Word, b: Word, c: Word) -> Step
+pub fn run_insertion(
+    keep: bool,
+    table: &mut [Word],
+    count: usize,
+    k: Word,
+    a: Word,
+    b: Word,
+    c: Word,
+) -> Step
     requires ticket { ⌜ Ready (now table) count 1 k a b c ⌝ }
-    ensures answer { λ r. ⌜ Stepped count r (now (table .exit)) (step product (now (table .entry))
+    ensures answer { λ r. ⌜ SteppedAs keep count r (now (table .exit)) (step product (now (table .entry))
         (recordOf 1 k a b c)) ⌝ }
 {
     let no_property = is_unknown_property(table, count, k, a, b, c);
@@ -100,7 +122,10 @@ pub fn run_insertion(table: &mut [Word], count: usize, k: Word, a: Word, b: Word
     if clash {
         return Step::Refused(CLASHING);
     }
-    insert_possible(table, count, k, a, b, c)
+    if keep {
+        return insert_possible(table, count, k, a, b, c);
+    }
+    insert_unsaved(table, count, k, a, b, c)
 }
 
 // A deletion. One whose fact is gone costs a lookup and changes nothing.

@@ -6,11 +6,10 @@ use mathlib.Core.List.{List, [], _∷_, _++_, append-cancel-left, map}
 use native.Mathlib.Omega.{arith}
 use lib.Dec.{T}
 use lib.ListN.{length}
-use Rattle.rdfs.specs.Lists.{_∈_, here, there, concatMap}
-use Rattle.rdfs.specs.Orders.{sameBytes}
+use Rattle.rdfs.specs.Lists.{_∈_, here, there, concatMap, sameList}
 use Rattle.rdfs.proofs.lists.Tests.{Tests, tests-as, tests-agree}
 use Rattle.rdfs.proofs.lists.ListLaws.{in-map}
-use Rattle.rdfs.proofs.register.Perms.{bytes-eq, bytes-refl}
+use Rattle.rdfs.proofs.lists.SameList.{same-list-eq, same-list-refl}
 use Rattle.table.proofs.TestAnswers.{is-true, is-false}
 use Rattle.triple_form.specs.Lines.{Line, lineOf, inProfile}
 use Rattle.triples.specs.Texts.{textOfLines}
@@ -23,8 +22,8 @@ use Rattle.triples.proofs.LinesRead.{top, linesRead-none, linesRead-mor
 pub tests-inside : (text : List ℕ) → Tests (allInside top text) (text ≡ textOfLines (linesRead top text))
 unfolding allInside
 tests-inside text = record {
-  sound = bytes-eq text (textOfLines (linesRead top text));
-  complete = λ e. subst (λ l. T (sameBytes text l)) e (bytes-refl text);
+  sound = same-list-eq text (textOfLines (linesRead top text));
+  complete = λ e. subst (λ l. T (sameList text l)) e (same-list-refl text);
 }
 
 pub inside-is : (text : List ℕ) → T (allInside top text) → text ≡ textOfLines (linesRead top text)

@@ -9,10 +9,10 @@ use native.Mathlib.Decide.{ℕ-discrete}
 use lib.Dec.{T, eqb}
 use lib.ListN.{getD}
 use Rattle.rdfs.specs.Numbers.{product}
-use Rattle.rdfs.specs.Orders.{sameBytes}
+use Rattle.rdfs.specs.Lists.{sameList}
 use Rattle.rdfs.proofs.lists.Tests.{either-or, or-either}
 use Rattle.rdfs.proofs.lists.Filters.{cond-yes, cond-no}
-use Rattle.rdfs.proofs.register.Perms.{bytes-eq, bytes-refl}
+use Rattle.rdfs.proofs.lists.SameList.{same-list-eq, same-list-refl}
 use Rattle.terms.specs.Terms.{bytes, decimal, rdfs, spelt, Proper}
 use Rattle.terms.specs.Terms.{ended}
 use Rattle.terms.specs.declared.term.Term.{Term}
@@ -54,30 +54,30 @@ same-id e = cc
 same-literal : {m n : ℕ} → Literal m ≡ Literal n → m ≡ n
 same-literal e = cc
 
-part-one : (t u : Term) → Proper top t → Proper top u → T (sameBytes (ended (spelt t)) (ended (spelt u))) → t ≡ u
-part-one t u p q h = spelt-one t u (32 ∷ []) (32 ∷ []) p q (bytes-eq (ended (spelt t)) (ended (spelt u)) h) .0
+part-one : (t u : Term) → Proper top t → Proper top u → T (sameList (ended (spelt t)) (ended (spelt u))) → t ≡ u
+part-one t u p q h = spelt-one t u (32 ∷ []) (32 ∷ []) p q (same-list-eq (ended (spelt t)) (ended (spelt u)) h) .0
 
 id-named : (n k : ℕ) → n ≤ top → k ≤ top → T (names (ended (spelt (Id n))) k) → n ≡ k
 id-named n k p q h = ⊎-elim (λ a. same-id (part-one (Id n) (Id k) p q a)) (λ b. absurd (iri-or-literal n k (32 ∷ []) (32 ∷ [])
-    (bytes-eq (ended (spelt (Id n))) (ended (spelt (Literal k))) b))) (or-either
-    (sameBytes (ended (spelt (Id n))) (ended (spelt (Id k)))) (sameBytes (ended (spelt (Id n))) (ended (spelt (Literal k)))) h)
+    (same-list-eq (ended (spelt (Id n))) (ended (spelt (Literal k))) b))) (or-either
+    (sameList (ended (spelt (Id n))) (ended (spelt (Id k)))) (sameList (ended (spelt (Id n))) (ended (spelt (Literal k)))) h)
 
 literal-named : (n k : ℕ) → 2 ≤ n → n ≤ top → 2 ≤ k → k ≤ top → T (names (ended (spelt (Literal n))) k) → n ≡ k
 literal-named n k a p b q h = ⊎-elim (λ c. absurd (iri-or-literal k n (32 ∷ []) (32 ∷ []) (sym
-    (bytes-eq (ended (spelt (Literal n))) (ended (spelt (Id k))) c)))) (λ d. same-literal (part-one (Literal n) (Literal k)
-    (a, p) (b, q) d)) (or-either (sameBytes (ended (spelt (Literal n))) (ended (spelt (Id k))))
-    (sameBytes (ended (spelt (Literal n))) (ended (spelt (Literal k)))) h)
+    (same-list-eq (ended (spelt (Literal n))) (ended (spelt (Id k))) c)))) (λ d. same-literal (part-one (Literal n) (Literal k)
+    (a, p) (b, q) d)) (or-either (sameList (ended (spelt (Literal n))) (ended (spelt (Id k))))
+    (sameList (ended (spelt (Literal n))) (ended (spelt (Literal k)))) h)
 
 pub idOf-id : (m n : ℕ) → n ≤ m → m ≤ top → idOf m (ended (spelt (Id n))) ≡ n
 idOf-id m n h g = idOf-is (ended (spelt (Id n))) n m h
-    (λ _. either-or (sameBytes (ended (spelt (Id n))) (ended (spelt (Id n)))) (sameBytes (ended (spelt (Id n)))
-    (ended (spelt (Literal n)))) (inl (bytes-refl (ended (spelt (Id n))))))
+    (λ _. either-or (sameList (ended (spelt (Id n))) (ended (spelt (Id n)))) (sameList (ended (spelt (Id n)))
+    (ended (spelt (Literal n)))) (inl (same-list-refl (ended (spelt (Id n))))))
     (λ k a b t. omega (arith, a, id-named n k (omega (arith, h, g)) (omega (arith, b, g)) t))
 
 pub idOf-literal : (m n : ℕ) → 2 ≤ n → n ≤ m → m ≤ top → idOf m (ended (spelt (Literal n))) ≡ n
 idOf-literal m n two h g = idOf-is (ended (spelt (Literal n))) n m h
-    (λ _. either-or (sameBytes (ended (spelt (Literal n))) (ended (spelt (Id n)))) (sameBytes (ended (spelt (Literal n)))
-    (ended (spelt (Literal n)))) (inr (bytes-refl (ended (spelt (Literal n))))))
+    (λ _. either-or (sameList (ended (spelt (Literal n))) (ended (spelt (Id n)))) (sameList (ended (spelt (Literal n)))
+    (ended (spelt (Literal n)))) (inr (same-list-refl (ended (spelt (Literal n))))))
     (λ k a b t. omega (arith, a, literal-named n k two (omega (arith, h, g)) (omega (arith, two, a)) (omega (arith, b, g)) t))
 
 -- The number that a term tells as a part.

@@ -7,12 +7,11 @@ use mathlib.Core.List.{List, [], _∷_, _++_}
 use lib.Dec.{T}
 use lib.ListN.{take, getD}
 use Rattle.rdfs.specs.Numbers.{product}
-use Rattle.rdfs.specs.Lists.{_∈_, here, there, filter, concatMap}
-use Rattle.rdfs.specs.Orders.{sameBytes}
+use Rattle.rdfs.specs.Lists.{_∈_, here, there, filter, concatMap, sameList}
 use Rattle.rdfs.specs.Facts.{Fact, cl, pr, ind, lit, excl, csub, psub, dom, rng, ci, pi, kind, made}
 use Rattle.rdfs.proofs.lists.Tests.{and-both, both-and}
 use Rattle.rdfs.proofs.lists.ListLaws.{none-in, in-cons, in-filter, filter-in, concatMap-in}
-use Rattle.rdfs.proofs.register.Perms.{bytes-eq, bytes-refl}
+use Rattle.rdfs.proofs.lists.SameList.{same-list-eq, same-list-refl}
 use Rattle.terms.specs.Terms.{bytes, spelt, Proper}
 use Rattle.terms.specs.Terms.{ended}
 use Rattle.triple_form.specs.Lines.{Line, hasLine, subject, predicate, object, lineOf, inProfile}
@@ -108,21 +107,21 @@ module _ {A : Type 0} where
   first-in [] x h = absurd (none-in h)
   first-in (y ∷ l) x h = ⊎-elim (λ e. here e) (λ k. absurd (none-in k)) (in-cons h)
 
-passes : (l : List ℕ) (x : Line) → T (sameBytes (lineOf x) l && inProfile top x) → (lineOf x ≡ l) × T (inProfile top x)
-passes l x t = let both = and-both (sameBytes (lineOf x) l) (inProfile top x) t in (bytes-eq (lineOf x) l (both .0), both .1)
+passes : (l : List ℕ) (x : Line) → T (sameList (lineOf x) l && inProfile top x) → (lineOf x ≡ l) × T (inProfile top x)
+passes l x t = let both = and-both (sameList (lineOf x) l) (inProfile top x) t in (same-list-eq (lineOf x) l (both .0), both .1)
 
 pub lineRead-of : (x : Line) → T (inProfile top x) → lineRead top (lineOf x) ≡ x ∷ []
 unfolding lineRead
 lineRead-of x h =
     let l : List ℕ = lineOf x in
-    let test : Line → Bool = λ y. sameBytes (lineOf y) l && inProfile top y in
+    let test : Line → Bool = λ y. sameList (lineOf y) l && inProfile top y in
     one-of (filter test (couldBe top l)) x
-    (filter-in test (couldBe top l) (found x h) (both-and (sameBytes l l) (inProfile top x) (bytes-refl l) h))
+    (filter-in test (couldBe top l) (found x h) (both-and (sameList l l) (inProfile top x) (same-list-refl l) h))
     (λ y m. let g = passes l y (in-filter test (couldBe top l) m .1) in
     line-one y x [] [] (g .1) h (ap (λ b. b ++ []) (g .0)) .0)
 
 pub lineRead-is : (l : List ℕ) (x : Line) → x ∈ lineRead top l → (lineOf x ≡ l) × T (inProfile top x)
 unfolding lineRead
 lineRead-is l x h =
-    let test : Line → Bool = λ y. sameBytes (lineOf y) l && inProfile top y in
+    let test : Line → Bool = λ y. sameList (lineOf y) l && inProfile top y in
     passes l x (in-filter test (couldBe top l) (first-in (filter test (couldBe top l)) x h) .1)

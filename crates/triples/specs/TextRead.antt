@@ -5,10 +5,9 @@ use mathlib.Core.List.{List, [], _∷_, _++_}
 use lib.Dec.{eqb}
 use lib.ListN.{take, getD}
 use Rattle.rdfs.specs.Numbers.{Numbers}
-use Rattle.rdfs.specs.Lists.{filter, concatMap, any}
+use Rattle.rdfs.specs.Lists.{filter, concatMap, any, sameList}
 use Rattle.rdfs.specs.Facts.{Fact, ind, lit, kind, first, second, made}
 use Rattle.rdfs.specs.Words.{words}
-use Rattle.rdfs.specs.Orders.{sameBytes}
 use Rattle.terms.specs.Terms.{spelt, ended}
 use Rattle.triple_form.specs.Lines.{Line, lineOf, inProfile}
 use Rattle.terms.specs.declared.term.Term.the-variants.{Id, Literal}
@@ -27,7 +26,7 @@ cutAfter end (x ∷ l) = cond (eqb x end) ((x ∷ []) ∷ cutAfter end l) (onto 
 
 -- A part is the IRI of n, or the literal n, with its blank.
 abbrev pub names : List ℕ → ℕ → Bool
-names part n = sameBytes part (ended (spelt (Id n))) || sameBytes part (ended (spelt (Literal n)))
+names part n = sameList part (ended (spelt (Id n))) || sameList part (ended (spelt (Literal n)))
 
 -- The highest number up to a bound that a part names; 0 where it names none.
 abbrev pub idOf : ℕ → List ℕ → ℕ
@@ -52,7 +51,7 @@ couldBe top bytes =
 
 -- The line inside the profile that some bytes are, if they are one.
 unfoldable pub lineRead : ℕ → List ℕ → List Line
-lineRead top bytes = take 1 (filter (λ x. sameBytes (lineOf x) bytes && inProfile top x) (couldBe top bytes))
+lineRead top bytes = take 1 (filter (λ x. sameList (lineOf x) bytes && inProfile top x) (couldBe top bytes))
 
 -- The lines inside the profile that a text has.
 unfoldable pub linesRead : ℕ → List ℕ → List Line
@@ -60,7 +59,7 @@ linesRead top text = concatMap (lineRead top) (cutAfter 10 text)
 
 -- Each line of the text is inside the profile.
 unfoldable pub allInside : ℕ → List ℕ → Bool
-allInside top text = sameBytes text (textOfLines (linesRead top text))
+allInside top text = sameList text (textOfLines (linesRead top text))
 
 -- A line has id n as a literal, or as the IRI of a value.
 abbrev pub asLiteral : ℕ → Line → Bool

@@ -15,6 +15,7 @@ mod list_calls;
 mod lists;
 mod paper;
 mod plant;
+mod previews;
 mod programs;
 mod report;
 mod rivals;

@@ -7,6 +7,7 @@ use crate::growth::{picture, Curve};
 use crate::host_calls;
 use crate::list_calls;
 use crate::lists;
+use crate::previews;
 use crate::programs;
 use crate::settings::Settings;
 use crate::sqlite;
@@ -79,6 +80,7 @@ pub fn measure(settings: &Settings) -> Report {
     let graphs = host_calls::measure(settings, &subjects);
     let plants = &graphs[1..];
     text += &host_calls_part(&graphs);
+    text += &previews::part(settings, &subjects[1..]);
     text += &checks_part(settings, &subjects, &graphs);
     let curves = curves_of(plants, |measured| &measured.mean);
     text += &growth_part(&curves, plants);

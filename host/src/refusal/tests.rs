@@ -22,7 +22,8 @@ fn after(refusal: &Refusal) -> Option<Refusal> {
         Refusal::FewAnswers => Refusal::OutsideProfile,
         Refusal::OutsideProfile => Refusal::UnknownClass,
         Refusal::UnknownClass => Refusal::NotForOperators,
-        Refusal::NotForOperators => return None,
+        Refusal::NotForOperators => Refusal::OutOfDate,
+        Refusal::OutOfDate => return None,
     };
     Some(next)
 }

@@ -36,6 +36,8 @@ static uint8_t image[VIMELOSA_LONGEST_IMAGE];
 static uint8_t output[VIMELOSA_LONGEST_IMAGE];
 static uint8_t answers[2];
 static uint8_t text[VIMELOSA_LONGEST_TEXT];
+static uint32_t added[VIMELOSA_MOST_FACTS];
+static uint32_t removed[VIMELOSA_MOST_FACTS];
 static size_t image_length;
 static size_t text_length;
 static uint64_t result;
@@ -117,6 +119,18 @@ static void *apply_operator_list(void *unused) {
     return unused;
 }
 
+static void *ask(void *unused) {
+    result = vimelosa_ask(image, image_length, tickets, VIMELOSA_TICKET, added, VIMELOSA_MOST_FACTS, removed,
+                          VIMELOSA_MOST_FACTS);
+    return unused;
+}
+
+static void *commit(void *unused) {
+    result = vimelosa_commit(image, image_length, tickets, VIMELOSA_TICKET, added, VIMELOSA_MOST_FACTS,
+                             removed, VIMELOSA_MOST_FACTS, output, sizeof output);
+    return unused;
+}
+
 static void *check(void *unused) {
     result = vimelosa_check(image, image_length);
     return unused;
@@ -169,6 +183,8 @@ int main(void) {
     measure("vimelosa_apply_operator", apply_operator);
     measure("vimelosa_apply_operator_list", apply_operator_list);
     make_chains();
+    measure("vimelosa_ask", ask);
+    measure("vimelosa_commit", commit);
     measure("vimelosa_check", check);
     measure("vimelosa_write_triples", write_triples);
     measure("vimelosa_read_triples", read_triples);

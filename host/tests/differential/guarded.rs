@@ -1,5 +1,5 @@
-//! The calls across the C interface and the independent implementation on the same bytes, with guard bytes
-//! around every buffer.
+//! The calls across the C interface and the independent implementation on the same bytes, with guards around
+//! every buffer.
 
 use crate::generator::calls::HostCall;
 use crate::generator::operators::operator_list;
@@ -8,32 +8,36 @@ use crate::generator::Random;
 use crate::independent::host::{host_call, host_check, host_list_call};
 use crate::independent::host::{host_operator_call, host_operator_list_call};
 use crate::independent::list::TICKET_LENGTH;
+use std::fmt::Debug;
 use vimelosa_host::{call_list_raw, call_operator_list_raw, call_operator_raw, call_raw, check_raw};
 
-const GUARD: [u8; 32] = [0xa5; 32];
+/// So many bytes or words are a guard, each of them this.
+const GUARD: usize = 32;
+const GUARD_BYTE: u8 = 0xa5;
 
-/// Bytes between two guards.
-pub struct Guarded {
-    bytes: Vec<u8>,
+/// Bytes or words between two guards.
+pub struct Guarded<T> {
+    items: Vec<T>,
 }
 
-impl Guarded {
-    pub fn of(inner: &[u8]) -> Guarded {
-        Guarded { bytes: [&GUARD, inner, &GUARD].concat() }
+impl<T: Copy + Debug + PartialEq + From<u8>> Guarded<T> {
+    pub fn of(inner: &[T]) -> Guarded<T> {
+        let guard = [T::from(GUARD_BYTE); GUARD];
+        Guarded { items: [&guard, inner, &guard].concat() }
     }
 
-    pub fn inner(&self) -> &[u8] {
-        &self.bytes[GUARD.len()..self.bytes.len() - GUARD.len()]
+    pub fn inner(&self) -> &[T] {
+        &self.items[GUARD..self.items.len() - GUARD]
     }
 
-    pub fn inner_mut(&mut self) -> &mut [u8] {
-        let end = self.bytes.len() - GUARD.len();
-        &mut self.bytes[GUARD.len()..end]
+    pub fn inner_mut(&mut self) -> &mut [T] {
+        let end = self.items.len() - GUARD;
+        &mut self.items[GUARD..end]
     }
 
-    /// Both guards and the bytes between them are as expected.
-    pub fn assert_holds(&self, inner: &[u8]) {
-        assert_eq!(self.bytes, [&GUARD, inner, &GUARD].concat());
+    /// Both guards and what is between them are as expected.
+    pub fn assert_holds(&self, inner: &[T]) {
+        assert_eq!(self.items, Guarded::of(inner).items);
     }
 }
 
@@ -86,7 +90,7 @@ type HostListCall = fn(&[u8], &[u8], &mut [u8], &mut [u8]) -> u64;
 pub struct Sender {
     pub proved: (HostCall, HostListCall),
     independent: (HostCall, HostListCall),
-    refusals: &'static [u64],
+    pub refusals: &'static [u64],
     pub list: fn(&mut Random, &Ids, usize) -> Vec<u8>,
 }
 

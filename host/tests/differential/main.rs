@@ -7,6 +7,7 @@ mod check_call;
 mod generator;
 #[macro_use]
 mod guarded;
+mod guarded_previews;
 mod guarded_triples;
 mod host_call;
 #[path = "../independent/mod.rs"]
@@ -15,6 +16,7 @@ mod list_buffers;
 mod list_call;
 mod operator_call;
 mod operator_list_call;
+mod preview_call;
 #[path = "../process/mod.rs"]
 mod process;
 mod program_one;

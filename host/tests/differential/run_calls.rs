@@ -3,13 +3,14 @@
 use crate::generator::damage::damaged;
 use crate::generator::graphs::{filled, grown, image, overfull, ten_entries};
 use crate::generator::operators::any_operator_ticket;
+use crate::generator::previews::{ask_line, commit_line, exact_runs, preview_script};
 use crate::generator::scripts::{hexadecimal, script, table_line, words_of};
 use crate::generator::tickets::{any_ticket, holders, ticket, Ids, ALL_IDS, FEW, PLENTY};
 use crate::generator::{rounds, Random};
 use crate::independent::script::run_script;
 use crate::process::Program;
-use crate::vector_files::{class_cases, exclusive_cases, image_cases, operator_cases};
-use crate::vector_files::{ImageCase, OperatorCase, TicketCase};
+use crate::vector_files::{class_cases, exclusive_cases, image_cases, operator_cases, preview_cases};
+use crate::vector_files::{ImageCase, OperatorCase, PreviewCall, PreviewCase, TicketCase};
 use std::collections::BTreeSet;
 
 fn assert_same(program: &Program, script: &str) {
@@ -50,6 +51,8 @@ fn random_scripts_meet_every_answer() {
         ("lookup", &[0, 1, 2]),
         ("apply", &[0, 1, 2, 3, 4, 5, 6, 7, 8, 9, 10, 11, 16]),
         ("operator", &[0, 1, 2, 3, 4, 5, 6, 7, 8, 9, 10, 11, 16, 17]),
+        ("ask", &[0, 1, 2, 3, 4, 5, 6, 7, 8, 9, 10, 11, 13, 16]),
+        ("commit", &[0, 1, 2, 3, 4, 5, 6, 7, 8, 9, 10, 11, 16, 18]),
         ("list", &[0, 1, 2, 3, 14]),
         ("operators", &[0, 1, 2, 3, 14]),
         ("each", &[0, 1, 2, 3, 14]),
@@ -109,6 +112,57 @@ fn on_the_operators_tickets() {
         let listed = format!("operators 0 {accepted} {refused}{numbers}\nwords{words}");
         let printed = program.output(script.as_bytes());
         assert!(printed.ends_with(&format!("keep\n{singly}back\n{listed}")), "{}: {printed}", case.name);
+    }
+}
+
+/// The words of runs in hexadecimal, a blank before each, and between the runs a stroke.
+fn shown_runs([added, removed]: &[Vec<u32>; 2]) -> String {
+    let shown = |run: &[u32]| run.iter().map(|word| format!(" {word:08x}")).collect::<String>();
+    format!("{} /{}", shown(added), shown(removed))
+}
+
+/// What a case asks or commits as a line, and what is printed for it.
+fn preview_line(case: &PreviewCase) -> (String, String) {
+    let [number, come, go] = case.answer;
+    match &case.call {
+        PreviewCall::Ask { lent, written } => {
+            let mut runs = written.clone();
+            runs.iter_mut().zip(lent).for_each(|(run, length)| run.resize(*length, u32::MAX));
+            let printed = format!("ask {number} {come} {go}{}\n", shown_runs(&runs));
+            (ask_line(*lent, &case.ticket), printed)
+        }
+        PreviewCall::Commit { runs } => {
+            (commit_line(runs, &case.ticket), format!("commit {number} {come} {go}\n"))
+        }
+    }
+}
+
+/// The cases of tickets asked about and committed on tables of their lengths. Only an accepted commit changes
+/// a word.
+#[test]
+fn on_the_previews() {
+    let program = Program::calls();
+    for case in preview_cases() {
+        let (line, printed) = preview_line(&case);
+        let start = format!("table {:04x} 00000000\nfresh\n", case.words);
+        let before = ticket_lines("apply", &case.before);
+        let script = format!("{start}{before}keep\n{line}\nsame\nwords\n");
+        assert_same(&program, &script);
+        let is_changed = line.starts_with("commit") && case.answer[1..] != [0, 0];
+        let expected = format!("keep\n{printed}same {}\n", u8::from(!is_changed));
+        let found = program.output(script.as_bytes());
+        assert!(found.contains(&expected), "{}: {found}", case.name);
+    }
+}
+
+/// Tickets asked about and committed in turn on plants, with runs that are exact and others.
+#[test]
+fn on_previews_in_turn() {
+    let program = Program::calls();
+    let mut random = Random::for_test("run_calls_on_previews_in_turn");
+    for round in 0..rounds(40) {
+        let ids = Ids { deletions: 3, ..ALL_IDS[round % 4] };
+        assert_same(&program, &preview_script(&mut random, &ids, 3));
     }
 }
 
@@ -191,6 +245,13 @@ fn on_full_tables() {
         let mut draw = || any_operator_ticket(&mut random, &ids);
         lines.extend((0..12).map(|_| format!("operator {}", hexadecimal(&draw()))));
         lines.extend(["words", "write 2000", "back", "same"].map(String::from));
+        for class in [2, 3, 5] {
+            let gone = [2, 1, class, 0, 0];
+            let runs = exact_runs(&words, &gone);
+            let lengths = [0, runs[1].len() + 2];
+            lines.extend([ask_line(lengths, &gone), commit_line(&runs, &gone), "words".to_string()]);
+            lines.extend(["commit 0000 0000 0101f00000", "back", "same"].map(String::from));
+        }
         let tickets: Vec<u8> = (0..5).flat_map(|_| ticket(&mut random, &ids)).collect();
         for name in ["list", "each", "records", "operators"] {
             lines.extend([

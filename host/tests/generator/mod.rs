@@ -1,5 +1,5 @@
-//! A small seeded generator of tickets, graphs, texts, and damaged images and texts. The same seed gives the
-//! same tests.
+//! A small seeded generator of tickets, graphs, texts, runs of words, and damaged images, texts and runs. The
+//! same seed gives the same tests.
 
 // Each test uses its own share of this module.
 #![allow(dead_code)]
@@ -12,6 +12,7 @@ pub mod lines;
 pub mod long_lists;
 pub mod operators;
 pub mod outside;
+pub mod previews;
 pub mod scripts;
 pub mod tickets;
 pub mod triples;

@@ -1,9 +1,11 @@
-//! Scripts for the program `run_calls`: tables good and bad, tickets and lists, plain and operators', images
-//! whole and damaged.
+//! Scripts for the program `run_calls`: tables good and bad, tickets and lists, plain and operators', tickets
+//! asked about and committed, images whole and damaged.
 
+use super::calls::Draw;
 use super::damage::damaged;
 use super::graphs::{disturbed, grown, marked, some_image_of};
 use super::operators::{any_operator_ticket, operator_list};
+use super::previews::{ask_line, commit_line};
 use super::tickets::{any_ticket, bad_ticket, list, ticket, Ids};
 use super::Random;
 use crate::independent::graph::Graph;
@@ -70,17 +72,42 @@ fn spoil(random: &mut Random, words: &mut Vec<u32>) {
 }
 
 fn command(random: &mut Random, ids: &Ids) -> String {
-    match random.below(28) {
-        0..=6 => format!("apply {}", hexadecimal(&any_ticket(random, ids))),
-        7..=9 => format!("operator {}", hexadecimal(&any_operator_ticket(random, ids))),
+    match random.below(36) {
+        0..=6 => format!("apply {}", hexadecimal(&some_ticket(random, ids, any_ticket))),
+        7..=9 => format!("operator {}", hexadecimal(&some_ticket(random, ids, any_operator_ticket))),
         10..=12 => list_line(random, ids),
         13..=15 => format!("read {}", hexadecimal(&some_image(random, ids))),
         16 => format!("write {:04x}", random.pick(&[0, 62, 68, 69, 80, 100, 150, 250, 700])),
         17 | 18 => format!("body {:04x} {}", random.below(14), hexadecimal(&some_image(random, ids))),
         19 | 20 => format!("lookup {:08x}", some_word(random, ids)),
         21 => "check".to_string(),
+        22..=25 => some_ask(random, ids),
+        26..=29 => some_commit(random, ids),
         _ => other_line(random),
     }
+}
+
+/// A drawn ticket, or one time in fifteen the deletion of what may not go.
+fn some_ticket(random: &mut Random, ids: &Ids, draw: Draw) -> Vec<u8> {
+    if random.is_one_in(15) {
+        random.pick(&[[2, 1, 0, 0, 0], [2, 5, 3, 0, 0], [2, 9, 4, 0, 0]]).to_vec()
+    } else {
+        draw(random, ids)
+    }
+}
+
+/// A ticket asked about with runs of some words.
+fn some_ask(random: &mut Random, ids: &Ids) -> String {
+    let lengths = [0; 2].map(|_: usize| random.pick(&[0, 1, 3, 9, 9, 30]));
+    ask_line(lengths, &some_ticket(random, ids, any_ticket))
+}
+
+/// A ticket committed with no words, as one that changes nothing is, or with what a ticket may add.
+fn some_commit(random: &mut Random, ids: &Ids) -> String {
+    let count = random.pick(&[0, 0, 0, 1, 2]);
+    let words = (0..count).map(|_| some_word(random, ids)).collect();
+    let runs = if random.is_one_in(2) { [words, Vec::new()] } else { [Vec::new(), words] };
+    commit_line(&runs, &some_ticket(random, ids, any_ticket))
 }
 
 /// A word that a ticket asks for, or a change of it.

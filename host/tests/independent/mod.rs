@@ -1,4 +1,4 @@
-//! The text of document 01, and of Asks 1 to 3 and 5 of document 02 (4 asks for no call), in plain Rust,
+//! The text of document 01, and of Asks 1 to 3, 5 and 6 of document 02 (4 asks for no call), in plain Rust,
 //! which the tests hold beside the proved calls. No code is shared with these: a graph is a set of facts, and
 //! each rule is the list of demands that it makes of a graph. An insertion applies the rules again and again
 //! until they ask for nothing new; a deletion searches for the largest part and tries every choice that the
@@ -20,6 +20,7 @@ pub mod operator;
 pub mod order;
 pub mod plain;
 pub mod plain_triples;
+pub mod preview;
 pub mod programs;
 pub mod rules;
 pub mod script;

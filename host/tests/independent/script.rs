@@ -4,14 +4,16 @@
 use super::image::{body, read, write};
 use super::list::{apply_list, ListCall};
 use super::operator::{apply_operator, apply_operator_list};
+use super::preview::{ask, commit};
 use super::rules::{first_broken, name_of};
 use super::table::{check, facts_of, fresh, lookup};
-use super::ticket::{apply, TicketCall};
+use super::ticket::{apply, Answer, TicketCall};
 
-/// The most words, output bytes and answer bytes that a script can lend.
+/// The most words of a table, output bytes, answer bytes and words of a run that a script can lend.
 const WORDS: usize = 2049;
 const OUTPUT: usize = 8200;
 const ANSWERS: usize = 2048;
+const RUN: usize = 2048;
 
 /// What the lines of a script print.
 pub fn run_script(script: &str) -> String {
@@ -35,10 +37,22 @@ impl Given {
 
     /// The number of the first two bytes, and the bytes after them.
     fn number_and_rest(&self) -> (usize, &[u8]) {
-        match &self.bytes[..] {
-            [high, low, rest @ ..] => (256 * usize::from(*high) + usize::from(*low), rest),
-            _ => (0, &[]),
-        }
+        split_number(&self.bytes)
+    }
+
+    /// How many words the added run and the removed run have, and the bytes after these two numbers.
+    fn runs_and_rest(&self) -> (usize, usize, &[u8]) {
+        let (added, rest) = self.number_and_rest();
+        let (removed, rest) = split_number(rest);
+        (added.min(RUN), removed.min(RUN), rest)
+    }
+}
+
+/// The number of the first two bytes, and the bytes after them; 0 and none if there are not two.
+fn split_number(bytes: &[u8]) -> (usize, &[u8]) {
+    match bytes {
+        [high, low, rest @ ..] => (256 * usize::from(*high) + usize::from(*low), rest),
+        _ => (0, &[]),
     }
 }
 
@@ -51,6 +65,16 @@ fn words_of(bytes: &[u8]) -> Vec<u32> {
 /// Bytes in hexadecimal, a blank before each.
 fn shown(bytes: &[u8]) -> String {
     bytes.iter().map(|byte| format!(" {byte:02x}")).collect()
+}
+
+/// Words in hexadecimal, a blank before each.
+fn shown_words(words: &[u32]) -> String {
+    words.iter().map(|word| format!(" {word:08x}")).collect()
+}
+
+/// The number, added and removed of an answer, a blank before each.
+fn shown_answer(answer: Answer) -> String {
+    format!(" {} {} {}", answer.number, answer.added, answer.removed)
 }
 
 /// The table, and the copy of its words.
@@ -76,6 +100,8 @@ impl State {
             "lookup" => self.lookup(&given.bytes),
             "apply" => self.apply(apply, &given.bytes),
             "operator" => self.apply(apply_operator, &given.bytes),
+            "ask" => self.ask(given),
+            "commit" => self.commit(given),
             "list" | "each" => self.list(apply_list, given),
             "operators" => self.list(apply_operator_list, given),
             "records" if given.bytes.len() != 27 => " ?".to_string(),
@@ -85,7 +111,7 @@ impl State {
             "body" => self.body(given),
             "damage" => self.damage(&given.bytes),
             "facts" => format!(" {}", self.words().len()),
-            "words" => self.words().iter().map(|word| format!(" {word:08x}")).collect(),
+            "words" => shown_words(self.words()),
             "same" => format!(" {}", u8::from(self.copy.starts_with(&self.table))),
             _ => return self.change(name, given),
         })
@@ -136,8 +162,26 @@ impl State {
     }
 
     fn apply(&mut self, call: TicketCall, ticket: &[u8]) -> String {
-        let answer = call(&mut self.table, ticket);
-        format!(" {} {} {}", answer.number, answer.added, answer.removed)
+        shown_answer(call(&mut self.table, ticket))
+    }
+
+    fn ask(&self, given: &Given) -> String {
+        let (added, removed, ticket) = given.runs_and_rest();
+        let (mut added, mut removed) = (vec![u32::MAX; added], vec![u32::MAX; removed]);
+        let answer = ask(&self.table, ticket, &mut added, &mut removed);
+        format!("{}{} /{}", shown_answer(answer), shown_words(&added), shown_words(&removed))
+    }
+
+    /// Bytes that the words lack count as 0; no byte is left for the ticket then.
+    fn commit(&mut self, given: &Given) -> String {
+        let (added, removed, rest) = given.runs_and_rest();
+        let needed = 4 * (added + removed);
+        let mut bytes = rest.to_vec();
+        bytes.resize(needed.max(rest.len()), 0);
+        let (words, ticket) = bytes.split_at(needed);
+        let words = words_of(words);
+        let (added, removed) = words.split_at(added);
+        shown_answer(commit(&mut self.table, ticket, added, removed))
     }
 
     fn list(&mut self, call: ListCall, given: &Given) -> String {

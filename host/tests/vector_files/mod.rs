@@ -39,6 +39,26 @@ pub struct OperatorCase {
     pub case: TicketCase,
 }
 
+/// A ticket asked about or committed on a table of so many words, fresh at first, on which the plain call ran
+/// others before, all of them accepted.
+pub struct PreviewCase {
+    pub name: &'static str,
+    pub words: usize,
+    pub before: Vec<u8>,
+    pub ticket: Vec<u8>,
+    pub call: PreviewCall,
+    /// Answer, added and removed.
+    pub answer: [usize; 3],
+}
+
+/// What one of the two calls is lent or handed: first the added run, then the removed run.
+pub enum PreviewCall {
+    /// Runs of so many words, and the words written to their fronts.
+    Ask { lent: [usize; 2], written: [Vec<u32>; 2] },
+    /// The words of the runs.
+    Commit { runs: [Vec<u32>; 2] },
+}
+
 /// A call for triples: what it is given, what it is lent, its answer, and what it leaves if that is 0.
 pub enum TriplesCase {
     /// A text into so many words.
@@ -120,6 +140,30 @@ pub fn operator_cases() -> Vec<OperatorCase> {
             OperatorCase { before, case: ticket_case(&columns) }
         })
         .collect()
+}
+
+pub fn preview_cases() -> Vec<PreviewCase> {
+    lines(include_str!("../../../tests/vectors/previews.tsv"))
+        .map(|columns| PreviewCase {
+            name: columns[0],
+            words: number(columns[1]),
+            before: some(columns[2]).map_or(Vec::new(), tickets),
+            ticket: some(columns[4]).map_or(Vec::new(), bytes),
+            call: preview_call(columns[3], columns[5], columns[7]),
+            answer: answer(columns[6]),
+        })
+        .collect()
+}
+
+fn preview_call(name: &str, given: &str, written: &str) -> PreviewCall {
+    match name {
+        "ask" => {
+            let (added, removed) = given.split_once(' ').expect("two lengths");
+            PreviewCall::Ask { lent: [added, removed].map(number), written: runs(written) }
+        }
+        "commit" => PreviewCall::Commit { runs: runs(given) },
+        other => panic!("there is no call {other}"),
+    }
 }
 
 pub fn image_cases() -> Vec<ImageCase> {
@@ -212,6 +256,12 @@ fn image(column: &str) -> Vec<u8> {
 fn words(column: &str) -> Vec<u32> {
     let word = |text: &str| u32::from_str_radix(text, 16).expect("a hexadecimal word");
     some(column).map_or(Vec::new(), |text| parts(text).map(word).collect())
+}
+
+/// The words of the added run and of the removed run.
+fn runs(column: &str) -> [Vec<u32>; 2] {
+    let (added, removed) = column.split_once('/').expect("two runs");
+    [added, removed].map(words)
 }
 
 /// The bytes of a text, as the head of triples.tsv describes it.

@@ -1,7 +1,7 @@
 -- `apply_on_image`: each way through it, in the order of its steps. Assumes nothing.
 use mathlib.Core.Path.{sym, _∙_}
 use Rattle.exchange.proofs.Between.{read-table}
-use Rattle.host_ticket.proofs.HostWays.{left-table, way-unread, way-unapplied, way-unwritten, way-done}
+use Rattle.host_ticket.proofs.HostWays.{left-table, applied-from, way-unread, way-unapplied, way-unwritten, way-done}
 use borrow.Author.Needs.{needs}
 use Rattle.host_ticket.proofs.apply_on_image.Statement.{statement}
 use Rattle.host_ticket.proofs.apply_on_image.Tie as tie
@@ -19,7 +19,7 @@ returns : tie.Need-returns
 returns c =
     let d = c .before .before .before in
     let s = d .before .before .before .before .before .args in
-    way-unread (s .operator) (s .image .now) (s .ticket .now) (s .output .now) (d .read .result) (c .pack .result)
+    way-unread (s .image .now) (s .output .now) _ (d .read .result) (c .pack .result)
     (d .read .ensures .0)
     (c .before .if1 .taken) (c .pack .ensures)
 
@@ -40,9 +40,9 @@ returns-2 c =
     let e = c .before .before .before .before in
     let d = e .before .before .before .before in
     let s = d .before .before .before .before .before .args in
-    way-unapplied (s .operator) (s .image .now) (s .ticket .now) (s .output .now)
-    (sym (d .read .ensures .0) ∙ e .before .before .if1 .left)
-    (d .read .ensures .1) (e .apply-as .result) (e .apply-as .ensures) (c .pack2 .result) (c .before .if2 .taken)
+    way-unapplied (s .image .now) (s .output .now) _ (sym (d .read .ensures .0) ∙ e .before .before .if1 .left)
+    (e .apply-as .result) (applied-from (s .operator) (s .image .now) (s .ticket .now) (d .read .ensures .1)
+    (e .apply-as .result) (e .apply-as .ensures)) (c .pack2 .result) (c .before .if2 .taken)
     (c .pack2 .ensures)
 
 slice-aggregate-write-checked : tie.Need-slice-aggregate-write-checked
@@ -69,9 +69,9 @@ returns-3 c =
     let e = w .before .before .before .before .before .before in
     let d = e .before .before .before .before in
     let s = d .before .before .before .before .before .args in
-    way-unwritten (s .operator) (s .image .now) (s .ticket .now) (s .output .now)
-    (sym (d .read .ensures .0) ∙ e .before .before .if1 .left)
-    (d .read .ensures .1) (e .apply-as .result) (e .apply-as .ensures) (w .before .before .before .if2 .left)
+    way-unwritten (s .image .now) (s .output .now) _ (sym (d .read .ensures .0) ∙ e .before .before .if1 .left)
+    (e .apply-as .result) (applied-from (s .operator) (s .image .now) (s .ticket .now) (d .read .ensures .1)
+    (e .apply-as .result) (e .apply-as .ensures)) (w .before .before .before .if2 .left)
     (w .write-checked .result .answer) (w .write-checked .result .length) (w .write-checked .last .1 .0)
     (w .write-checked .ensures .0) (w .write-checked .ensures .1) (w .write-checked .ensures .2) (c .pack3 .result)
     (c .before .if3 .taken) (c .pack3 .ensures)
@@ -88,9 +88,9 @@ returns-4 c =
     let e = w .before .before .before .before .before .before in
     let d = e .before .before .before .before in
     let s = d .before .before .before .before .before .args in
-    way-done (s .operator) (s .image .now) (s .ticket .now) (s .output .now)
-    (sym (d .read .ensures .0) ∙ e .before .before .if1 .left)
-    (d .read .ensures .1) (e .apply-as .result) (e .apply-as .ensures) (w .before .before .before .if2 .left)
+    way-done (s .image .now) (s .output .now) _ (sym (d .read .ensures .0) ∙ e .before .before .if1 .left)
+    (e .apply-as .result) (applied-from (s .operator) (s .image .now) (s .ticket .now) (d .read .ensures .1)
+    (e .apply-as .result) (e .apply-as .ensures)) (w .before .before .before .if2 .left)
     (w .write-checked .result .answer) (w .write-checked .result .length) (w .write-checked .last .1 .0)
     (w .write-checked .ensures .0) (w .write-checked .ensures .1) (w .write-checked .ensures .2) (c .pack4 .result)
     (c .before .if3 .left) (c .pack4 .ensures)

@@ -4,25 +4,13 @@ use mathlib.Core.Path.{_≡_, refl, sym, ap, subst}
 use mathlib.Core.Bool.{Bool, true, false, cond}
 use mathlib.Core.List.{List, [], _∷_, _++_}
 use native.Mathlib.Omega.{arith}
-use lib.Dec.{T, eqb, eqb→eq, eqb-refl}
+use lib.Dec.{T}
 use lib.ListN.{length, length-append}
-use Rattle.rdfs.specs.Lists.{_∈_, here, there, _⊆_, count}
-use Rattle.rdfs.specs.Orders.{sameBytes, SameTickets}
-use Rattle.rdfs.proofs.lists.Tests.{and-both, both-and}
+use Rattle.rdfs.specs.Lists.{_∈_, here, there, _⊆_, count, sameList}
+use Rattle.rdfs.specs.Orders.{SameTickets}
+use Rattle.rdfs.proofs.lists.SameList.{same-list-eq, same-list-refl}
 use Rattle.rdfs.proofs.lists.ListLaws.{none-in}
 use Rattle.rdfs.proofs.lists.Filters.{cond-yes}
-
-pub bytes-eq : (l m : List ℕ) → T (sameBytes l m) → l ≡ m
-bytes-eq [] [] t = refl
-bytes-eq [] (y ∷ m) t = absurd t
-bytes-eq (x ∷ l) [] t = absurd t
-bytes-eq (x ∷ l) (y ∷ m) t =
-    let h = and-both (eqb x y) (sameBytes l m) t in
-    rw (eqb→eq x y (h .0), bytes-eq l m (h .1))
-
-pub bytes-refl : (l : List ℕ) → T (sameBytes l l)
-bytes-refl [] = tt
-bytes-refl (x ∷ l) = both-and (eqb x x) (sameBytes l l) (eqb-refl x) (bytes-refl l)
 
 module _ {A : Type 0} (p : A → Bool) where
   pub count-some : {x : A} {l : List A} → x ∈ l → T (p x) → 0 < count p l
@@ -51,8 +39,8 @@ same-tickets-sym l m s t = sym (s t)
 
 pub same-tickets-in : (l m : List (List ℕ)) → SameTickets l m → l ⊆ m
 same-tickets-in l m s t h =
-    let r = some-count (sameBytes t) m (subst (λ k. 0 < k) (s t) (count-some (sameBytes t) h (bytes-refl t))) in
-    subst (λ u. u ∈ m) (sym (bytes-eq t (r .0) (r .2))) (r .1)
+    let r = some-count (sameList t) m (subst (λ k. 0 < k) (s t) (count-some (sameList t) h (same-list-refl t))) in
+    subst (λ u. u ∈ m) (sym (same-list-eq t (r .0) (r .2))) (r .1)
 
 pub same-tickets-length : (l m : List (List ℕ)) → SameTickets l m → length l ≡ length m
 same-tickets-length [] [] s = refl
@@ -65,9 +53,9 @@ same-tickets-length (t ∷ l) m s =
     λ u. omega (
       arith,
       s u,
-      ap (count (sameBytes u)) (r .2),
-      count-append (sameBytes u) before (t ∷ after),
-      count-append (sameBytes u) before after,
+      ap (count (sameList u)) (r .2),
+      count-append (sameList u) before (t ∷ after),
+      count-append (sameList u) before after,
     ) in
     omega (
       arith,

@@ -2,7 +2,16 @@
 use mathlib.Core.Path.{sym, _∙_}
 use borrow.Author.Needs.{needs}
 use Rattle.ticket_form.proofs.Formed.{formed-ids}
-use Rattle.ticket.proofs.Ways.{ready-asked, known-by, way-no-property, way-there, way-no-class, way-clash}
+use Rattle.ticket.proofs.Ways.{
+  ready-asked,
+  known-by,
+  possible-by,
+  way-no-property,
+  way-there,
+  way-no-class,
+  way-clash,
+}
+use Rattle.ticket.proofs.KeptWords.{stepped-as, stepped-work}
 use Rattle.ticket.proofs.step.run_insertion.Statement.{statement}
 use Rattle.ticket.proofs.step.run_insertion.Tie as tie
 
@@ -15,7 +24,7 @@ same-length c = search needs
 returns : tie.Need-returns
 returns c =
     let s = c .before .before .before .before in
-    way-no-property (s .pre) (sym (c .if1 .taken) ∙ c .before .is-unknown-property .ensures)
+    stepped-as (s .args .keep) (way-no-property (s .pre) (sym (c .if1 .taken) ∙ c .before .is-unknown-property .ensures))
 
 has-asked-requires : tie.Need-has-asked-requires
 has-asked-requires c κs = search needs
@@ -26,7 +35,7 @@ same-length-2 c = search needs
 returns-2 : tie.Need-returns-2
 returns-2 c =
     let s = c .before .before .before .before .before .before .before in
-    way-there (s .pre) (sym (c .if2 .taken) ∙ c .before .has-asked .ensures)
+    stepped-as (s .args .keep) (way-there (s .pre) (sym (c .if2 .taken) ∙ c .before .has-asked .ensures))
 
 is-unknown-class-requires : tie.Need-is-unknown-class-requires
 is-unknown-class-requires c κs = search needs
@@ -38,8 +47,8 @@ returns-3 : tie.Need-returns-3
 returns-3 c =
     let u = c .before .before .before .before .before .before in
     let s = u .before .before .before .before in
-    way-no-class (s .pre) (sym (u .if1 .left) ∙ u .before .is-unknown-property .ensures) (sym (c .if3 .taken)
-    ∙ c .before .is-unknown-class .ensures)
+    stepped-as (s .args .keep) (way-no-class (s .pre) (sym (u .if1 .left) ∙ u .before .is-unknown-property .ensures) (sym (c .if3 .taken)
+    ∙ c .before .is-unknown-class .ensures))
 
 clashes-requires : tie.Need-clashes-requires
 clashes-requires c κs =
@@ -56,26 +65,43 @@ returns-4 c =
     let v = c .before .before .before in
     let u = v .before .before .before .before .before .before in
     let s = u .before .before .before .before in
-    way-clash (s .pre) (known-by (sym (u .if1 .left) ∙ u .before .is-unknown-property .ensures)
-    (sym (v .if3 .left) ∙ v .before .is-unknown-class .ensures)) (sym (c .if4 .taken) ∙ c .before .clashes .ensures)
+    stepped-as (s .args .keep) (way-clash (s .pre) (known-by (sym (u .if1 .left) ∙ u .before .is-unknown-property .ensures)
+    (sym (v .if3 .left) ∙ v .before .is-unknown-class .ensures)) (sym (c .if4 .taken) ∙ c .before .clashes .ensures))
 
 insert-possible-requires : tie.Need-insert-possible-requires
 insert-possible-requires c κs =
-    let d = c .before in
+    let d = c .before .before in
     let v = d .before .before .before in
     let u = v .before .before .before .before .before .before in
-    record {
-      ready = u .before .before .before .before .pre;
-      known = known-by (sym (u .if1 .left) ∙ u .before .is-unknown-property .ensures)
-          (sym (v .if3 .left) ∙ v .before .is-unknown-class .ensures);
-      free = sym (d .before .clashes .ensures) ∙ d .if4 .left;
-    }
+    possible-by (u .before .before .before .before .pre) (sym (u .if1 .left) ∙ u .before .is-unknown-property .ensures)
+    (sym (v .if3 .left) ∙ v .before .is-unknown-class .ensures) (sym (d .if4 .left) ∙ d .before .clashes .ensures)
 
 same-length-5 : tie.Need-same-length-5
 same-length-5 c = search needs
 
 returns-5 : tie.Need-returns-5
-returns-5 c = search needs
+returns-5 c =
+    let at-insert = c .before .before in
+    let start = at-insert .before .before .before .before .before .before .before .before .before .before .before .before .before
+    .before .before .before in
+    stepped-as (start .args .keep) (at-insert .insert-possible .ensures)
+
+insert-unsaved-requires : tie.Need-insert-unsaved-requires
+insert-unsaved-requires c κs =
+    let d = c .before .before in
+    let v = d .before .before .before in
+    let u = v .before .before .before .before .before .before in
+    possible-by (u .before .before .before .before .pre) (sym (u .if1 .left) ∙ u .before .is-unknown-property .ensures)
+    (sym (v .if3 .left) ∙ v .before .is-unknown-class .ensures) (sym (d .if4 .left) ∙ d .before .clashes .ensures)
+
+same-length-6 : tie.Need-same-length-6
+same-length-6 c = search needs
+
+returns-6 : tie.Need-returns-6
+returns-6 c =
+    let at-insert = c .before .before in
+    let at-test = at-insert .before .before in
+    stepped-work _ (at-test .if5 .left) (at-insert .insert-unsaved .ensures)
 
 pub run-insertion-spec : {M : Type 1} → statement M
 run-insertion-spec =
@@ -95,4 +121,7 @@ run-insertion-spec =
     returns-4
     insert-possible-requires
     same-length-5
-    returns-5)
+    returns-5
+    insert-unsaved-requires
+    same-length-6
+    returns-6)

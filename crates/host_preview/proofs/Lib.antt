@@ -1,0 +1,2 @@
+-- HostPreviewWays: the ways through both functions, beside those of `host_ticket`.
+mod HostPreviewWays

@@ -1,0 +1,4 @@
+pub mod Previews
+pub mod PreviewPromises
+pub mod Besides
+pub mod Tried
