@@ -21,8 +21,8 @@ use Rattle.ticket.specs.declared.answer.Applied.{Applied}
 use Rattle.preview.specs.Previews.{Asked, addedWords, removedWords, shortRun, outOfDate, asking, committing}
 use Rattle.preview.specs.PreviewPromises.{AskPromise}
 use Rattle.preview.proofs.CommitWays.{committed-stale, committed-refused, committed-current}
-use Rattle.preview.proofs.PreviewLaws.{ask-number, commit-number, asked-is, ask-refused, stale-differs}
-use Rattle.preview.proofs.AskTheorems.{asked-added, asked-removed}
+use Rattle.preview_theorems.proofs.PreviewLaws.{ask-number, commit-number, asked-is, ask-refused, stale-differs}
+use Rattle.preview_theorems.proofs.AskTheorems.{asked-added, asked-removed}
 use Rattle.host_ticket.specs.HostTicket.{applied, hostNumber, hostBytes, HostPromiseOf, HostPromise}
 use Rattle.host_preview.specs.HostPreview.{askedOn, committedOn, HostAskPromise, HostCommitPromise}
 use Rattle.host_theorems.proofs.Saved.{accepted-passes, read-small, step-small, counts-fit, Kept, refused-of}

@@ -24,7 +24,7 @@ use Rattle.preview.specs.Previews.{
   asking,
 }
 use Rattle.preview.specs.PreviewPromises.{Previewed, AskPromise}
-use Rattle.preview.specs.Besides.{missing, Missing}
+use Rattle.differences.specs.Besides.{missing, Missing}
 use Rattle.preview.proofs.Trials.{trial-numbers, trial-accepted, trial-words, tried}
 
 -- What asking is, by the step's number and the lengths of the runs.

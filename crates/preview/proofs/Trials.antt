@@ -13,10 +13,10 @@ use Rattle.rdfs.proofs.register.AfterEach.{after}
 use Rattle.rdfs.proofs.Theorems.{product-sound}
 use Rattle.ticket.specs.Answered.{Answered, AnsweredAs}
 use Rattle.ticket.specs.declared.answer.Applied.{Applied}
-use Rattle.preview.specs.Besides.{missing, Missing}
+use Rattle.differences.specs.Besides.{missing, Missing}
 use Rattle.preview.specs.Tried.{Tried}
 use Rattle.preview.proofs.StepWords.{added-is, removed-is}
-use Rattle.preview.proofs.Matching.{same-false}
+use Rattle.differences.proofs.Matching.{same-false}
 
 -- The copy w′, the answer a and the words v that the ticket left.
 module _ (bytes : List ℕ) {w w′ v : List ℕ} (a : Applied) (t : Table product w) (copied : w′ ≡ w)

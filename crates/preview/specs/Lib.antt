@@ -1,4 +1,3 @@
 pub mod Previews
 pub mod PreviewPromises
-pub mod Besides
 pub mod Tried

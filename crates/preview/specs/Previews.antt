@@ -5,13 +5,11 @@ use mathlib.Core.Bool.{Bool, not, _&&_, _||_, cond}
 use mathlib.Core.List.{List, [], _∷_, _++_}
 use lib.Dec.{eqb, ltb}
 use lib.ListN.{length, drop}
-use Rattle.rdfs.specs.Numbers.{Numbers}
+use Rattle.rdfs.specs.Numbers.{Numbers, product}
 use Rattle.rdfs.specs.Lists.{sameList}
-use Rattle.rdfs.specs.Facts.{Fact}
-use Rattle.rdfs.specs.Words.{filled, facts}
-use Rattle.rdfs.specs.Tickets.{decoded}
-use Rattle.rdfs.specs.Refusals.{outcome, tableTests, ticketTests}
+use Rattle.rdfs.specs.Words.{filled}
 use Rattle.rdfs.specs.Register.{Answer, newcomers, refusedWith, step}
+use Rattle.ticket.specs.Demand1.{conditions}
 
 -- The words that the ticket would add to the table, and those that it would remove, as they stand there:
 -- ascending.
@@ -70,15 +68,10 @@ committing N table bytes added removed =
     cond (eqb (after .number) 0 && outOfDate N table bytes added removed) (refusedWith 18 table) after
 
 -- The refusals in their order: those of the single call, then 13 in asking and 18 in committing.
-abbrev pub singleTests : Numbers → List ℕ → List ℕ → List (ℕ × Bool)
-singleTests N table bytes =
-    let K : List Fact = facts N table in
-    tableTests N table ++ ticketTests N table K (outcome (N .top) K (decoded bytes)) bytes
+abbrev pub askTests : List ℕ → List ℕ → List ℕ → List ℕ → List (ℕ × Bool)
+askTests table bytes added removed =
+    conditions table bytes ++ ((13, shortRun product table bytes added removed) ∷ [])
 
-abbrev pub askTests : Numbers → List ℕ → List ℕ → List ℕ → List ℕ → List (ℕ × Bool)
-askTests N table bytes added removed =
-    singleTests N table bytes ++ ((13, shortRun N table bytes added removed) ∷ [])
-
-abbrev pub commitTests : Numbers → List ℕ → List ℕ → List ℕ → List ℕ → List (ℕ × Bool)
-commitTests N table bytes added removed =
-    singleTests N table bytes ++ ((18, outOfDate N table bytes added removed) ∷ [])
+abbrev pub commitTests : List ℕ → List ℕ → List ℕ → List ℕ → List (ℕ × Bool)
+commitTests table bytes added removed =
+    conditions table bytes ++ ((18, outOfDate product table bytes added removed) ∷ [])

@@ -3,7 +3,7 @@ use Prim.Native.Nat.{ℕ}
 use mathlib.Core.Bool.{Bool, _&&_}
 use mathlib.Core.List.{List}
 use Rattle.rdfs.specs.Lists.{sameList}
-use Rattle.preview.specs.Besides.{missing, Missing}
+use Rattle.differences.specs.Besides.{missing, Missing}
 
 -- The old table and the new one, with the numbers of words that came and that went.
 pub record Tried (old new : List ℕ) (added removed : ℕ) : Type 0 where

@@ -2,8 +2,8 @@
 //
 // The public calls are `ask` and `commit`. They have no `requires`: for all words of a table, all bytes of a
 // ticket and all words of two runs each says the answer, both counts and every word afterwards. `ask_checked`
-// and `commit_checked` serve the crates above: the same on a table known to be consistent. The crate assumes
-// nothing.
+// and `commit_checked` serve the crates above: the same on a table known to be consistent. What is proved of
+// the calls stands in the crate `preview_theorems`. The crate assumes nothing.
 //
 // Each takes one ticket's work on a copy of the table, 8 KB of stack, and one pass over the table and the
 // copy: a run of no words takes none, and a ticket fills one run at most, since an insertion removes nothing
@@ -14,9 +14,9 @@ ghost use Rattle.rdfs.specs.Numbers.{product};
 ghost use Rattle.rdfs.specs.Register.{Table};
 ghost use Rattle.preview.specs.PreviewPromises.{AskPromise, CommitPromise};
 ghost use Rattle.preview.specs.Tried.{Tried, isCurrent};
-use besides::is_missing;
-use besides::put_missing;
 use consistency::check;
+use differences::is_missing;
+use differences::put_missing;
 use table::MOST;
 use table::OUT_OF_DATE;
 use table::SHORT_OUTPUT;
@@ -25,8 +25,6 @@ use table::copy_words;
 use ticket::Applied;
 use ticket::refused;
 use ticket::try_ticket;
-
-mod besides;
 
 // Whether runs are exactly the words of the new table that the old lacks and those of the old that the new
 // lacks; the answer has how many these are.

@@ -3,7 +3,7 @@ use mathlib.Core.Path.{sym, _∙_}
 use denote.Ref.{now}
 use borrow.Author.Needs.{needs}
 use Rattle.rdfs.specs.Lists.{sameList}
-use Rattle.preview.specs.Besides.{missing}
+use Rattle.differences.specs.Besides.{missing}
 use Rattle.preview.proofs.Trials.{other-length, first-differs, second-differs, second-decides}
 use Rattle.preview.proofs.is_current.Statement.{statement}
 use Rattle.preview.proofs.is_current.Tie as tie

@@ -5,9 +5,9 @@ use native.Mathlib.Omega.{arith}
 use lib.ListN.{length}
 use borrow.Author.Needs.{needs}
 use Rattle.rdfs.specs.Register.{newcomers}
-use Rattle.preview.proofs.Matching.{Matching, match-start, match-apart, match-put, match-done}
-use Rattle.preview.proofs.besides.put_besides.Statement.{statement}
-use Rattle.preview.proofs.besides.put_besides.Tie as tie
+use Rattle.differences.proofs.Matching.{Matching, match-start, match-apart, match-put, match-done}
+use Rattle.differences.proofs.besides.put_besides.Statement.{statement}
+use Rattle.differences.proofs.besides.put_besides.Tie as tie
 
 abbrev Inv-loop : tie.InvT-loop
 Inv-loop words others run₀ at₀ place₀ past₀ run at place past = Matching words others run at place past

@@ -3,7 +3,7 @@
 use Prim.Native.Nat.{_-_}
 use native.Mathlib.Omega.{arith}
 use lib.ListN.{length}
-use Rattle.preview.proofs.Matching.{
+use Rattle.differences.proofs.Matching.{
   Matching,
   match-start,
   match-apart,
@@ -13,8 +13,8 @@ use Rattle.preview.proofs.Matching.{
   same-true,
   same-false,
 }
-use Rattle.preview.proofs.besides.is_besides.Statement.{statement}
-use Rattle.preview.proofs.besides.is_besides.Tie as tie
+use Rattle.differences.proofs.besides.is_besides.Statement.{statement}
+use Rattle.differences.proofs.besides.is_besides.Tie as tie
 
 abbrev Inv-loop : tie.InvT-loop
 Inv-loop words others run at₀ place₀ past₀ at place past = Matching words others run at place past

@@ -8,7 +8,7 @@ use Rattle.rdfs.specs.Numbers.{product}
 use Rattle.rdfs.specs.Lists.{Ascending}
 use Rattle.rdfs.specs.Words.{laidOut, filled}
 use Rattle.rdfs.specs.Register.{newcomers}
-use Rattle.preview.specs.declared.besides.Next.{Next}
+use Rattle.differences.specs.declared.besides.Next.{Next}
 
 -- Two ascending lists, and a place in each; from there on the first has a word that the second lacks.
 pub record Apart (words others : List ℕ) (place past : ℕ) : Type 0 where

@@ -15,12 +15,12 @@ use Rattle.rdfs.proofs.lists.Tests.{or-either}
 use Rattle.rdfs.proofs.Theorems.{product-sound}
 use Rattle.ticket.specs.Answered.{Answered, ApplyPromise}
 use Rattle.ticket.specs.declared.answer.Applied.{Applied}
 use Rattle.preview.specs.Previews.{addedWords, removedWords, shortRun, commitTests}
 use Rattle.preview.specs.PreviewPromises.{AskPromise, CommitPromise, Same}
 use Rattle.preview.proofs.StepWords.{added-is, removed-is}
 use Rattle.preview.proofs.AskWays.{asked-shown}
 use Rattle.preview.proofs.CommitWays.{committed-stale, committed-refused, committed-current}
-use Rattle.preview.proofs.PreviewLaws.{
+use Rattle.preview_theorems.proofs.PreviewLaws.{
   accepted-table,
   commit-order,
   eighteen-by,
@@ -28,7 +28,7 @@ use Rattle.preview.proofs.PreviewLaws.{
   differs-stale,
   commit-refused,
 }
-use Rattle.preview.proofs.AskTheorems.{asked-as-single, asked-added, asked-removed}
+use Rattle.preview_theorems.proofs.AskTheorems.{asked-as-single, asked-added, asked-removed}
 
 -- After asking, committing with the runs cut to the counts, on the same table, promises what the single call does.
 pub committed-as-single : (w b added removed added′ removed′ : List ℕ) (r : Applied)
@@ -75,8 +75,8 @@ asked-then-committed w b added removed added′ removed′ r p x v a z la lr c u
 -- Committing: the words w before, the runs, the answer c and the words u after.
 module _ (w b added removed u : List ℕ) (c : Applied) (q : CommitPromise w b added removed c u) where
   -- The answer is 0 or the first refusal that holds, in the order 1 to 11 of the single call, then 18.
-  pub commit-call-first : First (commitTests product w b added removed) (c .answer)
-  commit-call-first = subst (First (commitTests product w b added removed)) (sym (q .number))
+  pub commit-call-first : First (commitTests w b added removed) (c .answer)
+  commit-call-first = subst (First (commitTests w b added removed)) (sym (q .number))
       (commit-order product w b added removed)
 
   -- A refusal moves no word, and both counts are 0.

@@ -24,17 +24,17 @@ use Rattle.rdfs.proofs.register.AfterEach.{after}
 use Rattle.rdfs.proofs.Theorems.{product-sound}
 use Rattle.ticket.specs.Answered.{ApplyPromise}
 use Rattle.ticket.specs.declared.answer.Applied.{Applied}
 use Rattle.preview.specs.Previews.{
   addedWords,
   removedWords,
   shortRun,
   asking,
   askTests,
 }
 use Rattle.preview.specs.PreviewPromises.{AskPromise, Same, Difference}
 use Rattle.preview.proofs.StepWords.{added-is, removed-is}
 use Rattle.preview.proofs.AskWays.{asked-refused, asked-short, asked-shown}
-use Rattle.preview.proofs.PreviewLaws.{
+use Rattle.preview_theorems.proofs.PreviewLaws.{
   accepted-table,
   ask-order,
   thirteen-by,
@@ -56,8 +56,8 @@ newcomers-differ has lacks a = record {
 -- Asking: a table w, a ticket b, the runs before and after, and the answer r.
 module _ (w b added removed added′ removed′ : List ℕ) (r : Applied) (p : AskPromise w b added removed r added′ removed′) where
   -- The answer is 0 or the first refusal that holds, in the order 1 to 11 of the single call, then 13.
-  pub ask-call-first : First (askTests product w b added removed) (r .answer)
-  ask-call-first = subst (First (askTests product w b added removed)) (sym (p .number)) (ask-order product w b added removed)
+  pub ask-call-first : First (askTests w b added removed) (r .answer)
+  ask-call-first = subst (First (askTests w b added removed)) (sym (p .number)) (ask-order product w b added removed)
 
   -- 13 exactly if the ticket would be accepted and a run is shorter than the words to go to it.
   pub ask-call-thirteen : (r .answer ≡ 13 → (step product w b .number ≡ 0) × T (shortRun product w b added removed))

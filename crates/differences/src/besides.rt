@@ -4,7 +4,7 @@ ghost use mathlib.Core.Path.{_≡_};
 ghost use lib.ListN.{length};
 ghost use Rattle.rdfs.specs.Lists.{sameList};
 ghost use Rattle.rdfs.specs.Register.{newcomers};
-ghost use Rattle.preview.specs.Besides.{Apart, NextBeside, Measured, Missing, missing};
+ghost use Rattle.differences.specs.Besides.{Apart, NextBeside, Measured, Missing, missing};
 use table::Word;
 use table::count_facts;
 

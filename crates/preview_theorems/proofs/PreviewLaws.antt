@@ -30,11 +30,9 @@ use Rattle.preview.specs.Previews.{
   notAsked,
   asking,
   committing,
-  askTests,
-  commitTests,
 }
 use Rattle.preview.proofs.AskWays.{shown, asked-refused, asked-short, asked-shown}
 use Rattle.preview.proofs.CommitWays.{refused-is}
 
 -- A ticket is accepted only on a consistent table.
 pub accepted-table : (N : Numbers) (w bytes : List ℕ) → step N w bytes .number ≡ 0 → Table N w
@@ -91,10 +89,10 @@ module _ (N : Numbers) (w bytes added removed : List ℕ) where
       ∙ (ap (λ m. cond (eqb m 0 && test) n m) (sym (step-number N w bytes)) ∙ sym e))
       (first-true (tests N w bytes ++ ((n, test) ∷ [])))
 
-  pub ask-order : First (askTests N w bytes added removed) (ask .number)
+  pub ask-order : First (tests N w bytes ++ ((13, short) ∷ [])) (ask .number)
   ask-order = in-order 13 short (ask .number) ask-number
 
-  pub commit-order : First (commitTests N w bytes added removed) (committing N w bytes added removed .number)
+  pub commit-order : First (tests N w bytes ++ ((18, stale) ∷ [])) (committing N w bytes added removed .number)
   commit-order = in-order 18 stale (committing N w bytes added removed .number) commit-number
 
   -- The step gives neither 13 nor 18.

@@ -4,7 +4,7 @@ use Prim.Native.Nat.{_-_}
 use mathlib.Core.Logic.{⊎-elim}
 use native.Mathlib.Omega.{arith}
 use lib.ListN.{length}
-use Rattle.preview.proofs.Searching.{
+use Rattle.differences.proofs.Searching.{
   Searching,
   search-start,
   search-within,
@@ -13,8 +13,8 @@ use Rattle.preview.proofs.Searching.{
   search-same,
   search-past,
 }
-use Rattle.preview.proofs.besides.next_besides.Statement.{statement}
-use Rattle.preview.proofs.besides.next_besides.Tie as tie
+use Rattle.differences.proofs.besides.next_besides.Statement.{statement}
+use Rattle.differences.proofs.besides.next_besides.Tie as tie
 
 abbrev Inv-loop : tie.InvT-loop
 Inv-loop words others place past at₀ passed₀ at passed = Searching words others place past at passed

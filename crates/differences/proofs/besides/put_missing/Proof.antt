@@ -2,9 +2,9 @@
 use mathlib.Core.Path.{refl, sym, _∙_}
 use lib.Seq.{length-take-le}
 use borrow.Author.Needs.{needs}
-use Rattle.preview.proofs.Missings.{missing-within, missing-other-within, missing-is, missing-measured}
-use Rattle.preview.proofs.besides.put_missing.Statement.{statement}
-use Rattle.preview.proofs.besides.put_missing.Tie as tie
+use Rattle.differences.proofs.Missings.{missing-within, missing-other-within, missing-is, missing-measured}
+use Rattle.differences.proofs.besides.put_missing.Statement.{statement}
+use Rattle.differences.proofs.besides.put_missing.Tie as tie
 
 count-facts-requires : tie.Need-count-facts-requires
 count-facts-requires c κs = search needs

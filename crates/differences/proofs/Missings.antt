@@ -7,7 +7,7 @@ use Rattle.rdfs.specs.Words.{filled}
 use Rattle.rdfs.specs.Register.{newcomers}
 use Rattle.table.specs.Counted.{Counted}
 use Rattle.table.proofs.CountedLaws.{counted-first, counted-search}
-use Rattle.preview.specs.Besides.{Measured, missing, Missing}
+use Rattle.differences.specs.Besides.{Measured, missing, Missing}
 
 module _ {table other : List ℕ} {size n m : ℕ} (p : Missing table other size) (en : n ≡ length (filled table))
     (em : m ≡ length (filled other)) where

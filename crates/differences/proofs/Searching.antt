@@ -6,9 +6,9 @@ use native.Mathlib.Omega.{arith}
 use native.Mathlib.Numerals.{add-one}
 use lib.ListN.{length, getD, drop}
 use Rattle.rdfs.specs.Register.{newcomers}
-use Rattle.preview.specs.Besides.{Apart, NextBeside}
-use Rattle.preview.specs.declared.besides.Next.{Next}
-use Rattle.preview.proofs.Newcomers.{left-within, left-end, left-found, left-same, left-past}
+use Rattle.differences.specs.Besides.{Apart, NextBeside}
+use Rattle.differences.specs.declared.besides.Next.{Next}
+use Rattle.differences.proofs.Newcomers.{left-within, left-end, left-found, left-same, left-past}
 
 -- No word up to the place `at` is one that the others lack, and none of those passed is sought any more.
 pub record Searching (words others : List ℕ) (place past at passed : ℕ) : Type 0 where

@@ -4,9 +4,9 @@ use lib.Seq.{length-take-le}
 use denote.Ref.{now}
 use borrow.Author.Needs.{needs}
 use Rattle.rdfs.specs.Lists.{sameList}
-use Rattle.preview.proofs.Missings.{missing-within, missing-other-within, missing-is, missing-measured}
-use Rattle.preview.proofs.besides.is_missing.Statement.{statement}
-use Rattle.preview.proofs.besides.is_missing.Tie as tie
+use Rattle.differences.proofs.Missings.{missing-within, missing-other-within, missing-is, missing-measured}
+use Rattle.differences.proofs.besides.is_missing.Statement.{statement}
+use Rattle.differences.proofs.besides.is_missing.Tie as tie
 
 count-facts-requires : tie.Need-count-facts-requires
 count-facts-requires c κs = search needs

@@ -13,8 +13,8 @@ use Rattle.rdfs.specs.Lists.{sameList}
 use Rattle.rdfs.specs.Register.{newcomers}
 use Rattle.rdfs.proofs.lists.SameList.{same-list-eq, same-list-refl}
 use Rattle.table.proofs.TestAnswers.{is-true, is-false}
-use Rattle.preview.specs.Besides.{Apart, NextBeside, Measured}
-use Rattle.preview.specs.declared.besides.Next.{Next}
+use Rattle.differences.specs.Besides.{Apart, NextBeside, Measured}
+use Rattle.differences.specs.declared.besides.Next.{Next}
 
 -- The first `at` words of the run are the first that the others lack; the others of them are found from the places on.
 pub record Matching (words others run : List ℕ) (at place past : ℕ) : Type 0 where

@@ -1,0 +1,1 @@
+// What is proved of the calls `ask` and `commit`, from their promises. The crate has no code, and assumes nothing.
