@@ -85,10 +85,10 @@ fn insert_unsaved(table: &mut [Word], count: usize, k: Word, a: Word, b: Word, c
         (recordOf 1 k a b c)) ⌝ }
 {
     let grown = grow(table, count, k, a, b, c);
-    let Grown::Facts(after) = grown else {
+    let Grown::Facts(facts) = grown else {
         return Step::Refused(TOO_MANY);
     };
-    Step::Facts(after)
+    Step::Facts(facts)
 }
 
 // An insertion. One that is refused with 9, 16 or 10, or whose asked facts are all there, costs a few lookups
