@@ -62,7 +62,8 @@ fn put_besides(words: &[Word], others: &[Word], run: &mut [Word])
 // Whether a run is the words that the others lack.
 fn is_besides(words: &[Word], others: &[Word], run: &[Word]) -> bool
     requires lists { ⌜ Measured (now words) (now others) (now run) ⌝ }
-    ensures answer { λ r. ⌜ r ≡ sameList (now (run .entry)) (newcomers (now (others .entry)) (now (words .entry))) ⌝ }
+    ensures answer { λ r. ⌜ r ≡ sameList (now (run .entry)) (newcomers (now (others .entry))
+        (now (words .entry))) ⌝ }
 {
     let mut at = 0;
     let mut place = 0;
@@ -93,7 +94,8 @@ pub fn put_missing(table: &[Word], other: &[Word], run: &mut [Word])
 // Whether a run is the words of a table that another table lacks.
 pub fn is_missing(table: &[Word], other: &[Word], run: &[Word]) -> bool
     requires tables { ⌜ Missing (now table) (now other) (length (now run)) ⌝ }
-    ensures answer { λ r. ⌜ r ≡ sameList (now (run .entry)) (missing (now (table .entry)) (now (other .entry))) ⌝ }
+    ensures answer { λ r. ⌜ r ≡ sameList (now (run .entry)) (missing (now (table .entry))
+        (now (other .entry))) ⌝ }
 {
     let count = count_facts(table);
     let others = count_facts(other);

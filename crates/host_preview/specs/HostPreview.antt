@@ -1,5 +1,5 @@
--- What the host's calls of Ask 6 answer and leave, for all bytes and all words of two runs: reading, then asking; or
--- reading, committing and writing.
+-- What the host's calls of Ask 6 answer and leave, for all bytes and all words of two runs: reading, then
+-- asking; or reading, committing and writing.
 use Prim.Native.Nat.{ℕ}
 use mathlib.Core.Path.{_≡_}
 use mathlib.Core.Bool.{cond}

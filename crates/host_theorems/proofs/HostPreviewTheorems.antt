@@ -97,7 +97,8 @@ module _ (image ticket added removed : List ℕ) (r : ℕ) (added′ removed′ 
     counts : (a .added < sixteenBits) × (a .removed < sixteenBits)
     counts =
         let s = asked-is product w ticket added removed zero in
-        let small = counts-fit w ticket (read-table image 0 (sym (passes .0)) refl refl) (read-length room image) (s .accepted) in (
+        let t : Table product w = read-table image 0 (sym (passes .0)) refl refl in
+        let small = counts-fit w ticket t (read-length room image) (s .accepted) in (
           subst (λ n. n < sixteenBits) (sym (ap (λ x. x .added) (s .all))) (small .0),
           subst (λ n. n < sixteenBits) (sym (ap (λ x. x .removed) (s .all))) (small .1),
         )
@@ -157,7 +158,8 @@ module _ (image ticket added removed output : List ℕ) (c : ℕ) (v : List ℕ)
       (cond-small (eqb (step product before ticket .number) 0 && outOfDate product before ticket added removed) 18
       (step product before ticket .number) (lit< tt) (step-small before ticket)) in
       let k = refused-of image output s small (λ e. n (ap answerIn (committed .0) ∙ e)) in
-      (committed .1 ∙ k .0, ap addedIn (committed .0) ∙ k .1, ap removedIn (committed .0) ∙ k .2, ap lengthIn (committed .0) ∙ k .3)
+      let number = committed .0 in
+      (committed .1 ∙ k .0, ap addedIn number ∙ k .1, ap removedIn number ∙ k .2, ap lengthIn number ∙ k .3)
 
   plain : s ≡ step product before ticket → HostPromise image ticket output c v
   unfolding applied

@@ -169,7 +169,8 @@ module _ (operator : Bool) (image ticket output : List ℕ) where
       let later : ℕ = refusedElse (writeAnswer (s .table) output) counts in
       let a = accepted-passes (readAnswer room image) (refusedElse (s .number) later) (read-small image) e in
       let b = accepted-passes (s .number) later number-small (ap answerIn (sym (a .1)) ∙ e) in
-      let c = accepted-passes (writeAnswer (s .table) output) counts (write-small (s .table) output) (ap answerIn (sym (a .1 ∙ b .1)) ∙ e) in
+      let c = accepted-passes (writeAnswer (s .table) output) counts (write-small (s .table) output)
+      (ap answerIn (sym (a .1 ∙ b .1)) ∙ e) in
       record { read = a .0; number = b .0; write = c .0; answer = a .1 ∙ (b .1 ∙ c .1) }
 
   pub left-length : length (s .table) ≡ product .most

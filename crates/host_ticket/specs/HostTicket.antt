@@ -17,8 +17,8 @@ use Rattle.packing.specs.Packed.{packed, refusedElse}
 unfoldable pub applied : (operator : Bool) → List ℕ → List ℕ → Answer
 applied operator image ticket = stepAs operator product (readWords room image) ticket
 
--- A call with one ticket, by the answer of its ticket: the refusals of reading, of the ticket and of writing the
--- words that it left; then the counts and the image's length.
+-- A call with one ticket, by the answer of its ticket: the refusals of reading, of the ticket and of writing
+-- the words that it left; then the counts and the image's length.
 unfoldable pub hostNumber : (image output : List ℕ) → Answer → ℕ
 hostNumber image output after =
     refusedElse (readAnswer room image) (refusedElse (after .number)

@@ -105,7 +105,8 @@ module _ (bytes added removed : List ℕ) {w w′ v : List ℕ} (a : Applied) (t
     added-length = tried bytes a t copied did z .came .many ∙ ap (λ x. length (missing x w)) (trial-words bytes a t copied did z)
 
     removed-length : a .removed ≡ length (removedWords product w bytes)
-    removed-length = tried bytes a t copied did z .went .many ∙ ap (λ x. length (missing w x)) (trial-words bytes a t copied did z)
+    removed-length = tried bytes a t copied did z .went .many
+        ∙ ap (λ x. length (missing w x)) (trial-words bytes a t copied did z)
 
     -- A run is too short.
     pub way-short : {r : Applied} → (length added < a .added) ⊎ (length removed < a .removed) → r ≡ refusedAnswer 13

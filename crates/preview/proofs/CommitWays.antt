@@ -85,5 +85,6 @@ module _ (bytes added removed : List ℕ) {w w′ v : List ℕ} (a : Applied) (t
     way-committed {x} e q =
         let now : true ≡ isCurrent w (step product w bytes .table) added removed =
         e ∙ ap (λ y. isCurrent w y added removed) words in
-        subst (Answered a x) (sym (committed-current product w bytes added removed (λ h. subst (λ b. T (not b) → ⊥) now (λ f. f) h)))
+        subst (Answered a x)
+        (sym (committed-current product w bytes added removed (λ h. subst (λ b. T (not b) → ⊥) now (λ f. f) h)))
         (subst (λ y. Answered a y (step product w bytes)) (sym (q ∙ words)) numbers)

@@ -21,6 +21,7 @@ module _ {M : Type 1} (𝓤 : URA M) (H : Heap 𝓤) (A : Atoms 𝓤) (mem : Mem
   ask-tied = refl
 
   pub commit-tied : commit.clauses 𝓤 H A mem run
-      ≡ promising 𝓤 commit.ended (λ κs a r e. CommitPromise (now (a .0)) (now (a .1 .0)) (now (a .1 .1 .0)) (now (a .1 .1 .1 .0)) r
+      ≡ promising 𝓤 commit.ended (λ κs a r e. CommitPromise (now (a .0)) (now (a .1 .0)) (now (a .1 .1 .0))
+      (now (a .1 .1 .1 .0)) r
       (now (e .0)))
   commit-tied = refl

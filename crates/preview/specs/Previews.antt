@@ -1,5 +1,5 @@
--- Looking before agreeing, Ask 6 of document 02: what a ticket would do to a table is asked for, and committed
--- if it is still what the ticket would do.
+-- Looking before agreeing, Ask 6 of document 02: what a ticket would do to a table is asked for, and
+-- committed if it is still what the ticket would do.
 use Prim.Native.Nat.{ℕ}
 use mathlib.Core.Bool.{Bool, not, _&&_, _||_, cond}
 use mathlib.Core.List.{List, [], _∷_, _++_}

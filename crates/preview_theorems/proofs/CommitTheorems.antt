@@ -1,5 +1,6 @@
 -- What is proved of the call `commit`, and of `ask` and `commit` one after the other: all that is known of what they answer and
--- leave are their contracts, `AskPromise` and `CommitPromise`, and of the single call its contract, `ApplyPromise`. Assumes nothing.
+-- leave are their contracts, `AskPromise` and `CommitPromise`, and of the single call its contract, `ApplyPromise`. Assumes
+-- nothing.
 use Prim.Native.Nat.{ℕ, _≤_}
 use mathlib.Core.Path.{_≡_, sym, ap, subst, _∙_}
 use mathlib.Core.Logic.{⊎-elim}

@@ -1,1 +1,2 @@
-// What is proved of the calls `ask` and `commit`, from their promises. The crate has no code, and assumes nothing.
+// What is proved of the calls `ask` and `commit`, from their promises. The crate has no code, and assumes
+// nothing.

@@ -1,4 +1,5 @@
--- What is left of the words where they need not be kept: the same promise with less said, and with KEEP the same. Assumes nothing.
+-- What is left of the words where they need not be kept: the same promise with less said, and with KEEP the same. Assumes
+-- nothing.
 use Prim.Native.Nat.{ℕ}
 use mathlib.Core.Path.{_≡_, sym, subst}
 use mathlib.Core.Bool.{Bool, true, false}

@@ -17,7 +17,8 @@ pub record Answered (applied : Applied) (after : List ℕ) (answer : Answer) : T
   pub removed : applied .removed ≡ answer .removed
   pub words : after ≡ answer .table
 
--- The words left are the register's; of a work table, which need not keep them, only if the ticket is accepted.
+-- The words left are the register's; of a work table, which need not keep them, only if the ticket is
+-- accepted.
 abbrev pub Leaves : (keep : Bool) → (after : List ℕ) → Answer → Type 0
 Leaves keep after answer = T (keep || eqb (answer .number) 0) → after ≡ answer .table
 

@@ -35,8 +35,8 @@ mod step;
 pub use answer::Applied;
 pub use answer::refused;
 
-// Whether a refused ticket has to leave the words as they were: on a caller's table; on a work table, which is
-// given up then, it has not.
+// Whether a refused ticket has to leave the words as they were: on a caller's table; on a work table, which
+// is given up then, it has not.
 const KEEP: bool = true;
 
 const WORK: bool = false;

@@ -5,8 +5,8 @@ use host_preview::commit_on_image;
 use table::Word;
 
 // Reads the image into 2,048 words and writes to the runs, ascending, the words that the ticket would add and
-// remove. Answers the number and how many these are. Refused with 12, 11 or 3, with a ticket's refusal or with
-// 13 for a run that is too short, the counts are 0 and the runs are as they were.
+// remove. Answers the number and how many these are. Refused with 12, 11 or 3, with a ticket's refusal or
+// with 13 for a run that is too short, the counts are 0 and the runs are as they were.
 #[no_mangle]
 pub extern "C" fn vimelosa_ask(
     image: &[u8],

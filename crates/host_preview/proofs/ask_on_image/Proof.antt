@@ -29,7 +29,8 @@ ask-checked-requires : tie.Need-ask-checked-requires
 ask-checked-requires c κs =
     let d = c .before .before .before .before .before in
     let s = d .before .before .before .before .before .before .args in
-    read-table (s .image .now) (d .read .result) (d .read .ensures .0) (c .before .before .before .if1 .left) (d .read .ensures .1)
+    read-table (s .image .now) (d .read .result) (d .read .ensures .0) (c .before .before .before .if1 .left)
+    (d .read .ensures .1)
 
 pack-requires-2 : tie.Need-pack-requires-2
 pack-requires-2 c κs = search needs
@@ -46,7 +47,8 @@ returns-2 c =
     let d = e .before .before .before .before .before .before in
     let s = d .before .before .before .before .before .before .args in
     ask-done (s .image .now) (s .ticket .now) (s .added .now) (s .removed .now)
-    (sym (d .read .ensures .0) ∙ e .before .before .before .before .if1 .left) (d .read .ensures .1) (e .ask-checked .result) (e .ask-checked .ensures)
+    (sym (d .read .ensures .0) ∙ e .before .before .before .before .if1 .left) (d .read .ensures .1)
+    (e .ask-checked .result) (e .ask-checked .ensures)
     (c .pack2 .ensures)
 
 pub ask-on-image-spec : {M : Type 1} → statement M

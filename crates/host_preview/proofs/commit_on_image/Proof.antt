@@ -41,7 +41,8 @@ returns-2 c =
     let d = e .before .before .before .before in
     let s = d .before .before .before .before .before .before .before .args in
     way-unapplied (s .image .now) (s .output .now) _ (sym (d .read .ensures .0) ∙ e .before .before .if1 .left)
-    (e .commit-checked .result) (committed-from (s .image .now) (s .ticket .now) (s .added .now) (s .removed .now) (d .read .ensures .1)
+    (e .commit-checked .result)
+    (committed-from (s .image .now) (s .ticket .now) (s .added .now) (s .removed .now) (d .read .ensures .1)
     (e .commit-checked .result) (e .commit-checked .ensures)) (c .pack2 .result)
     (c .before .if2 .taken) (c .pack2 .ensures)
 
@@ -70,10 +71,12 @@ returns-3 c =
     let d = e .before .before .before .before in
     let s = d .before .before .before .before .before .before .before .args in
     way-unwritten (s .image .now) (s .output .now) _ (sym (d .read .ensures .0) ∙ e .before .before .if1 .left)
-    (e .commit-checked .result) (committed-from (s .image .now) (s .ticket .now) (s .added .now) (s .removed .now) (d .read .ensures .1)
+    (e .commit-checked .result)
+    (committed-from (s .image .now) (s .ticket .now) (s .added .now) (s .removed .now) (d .read .ensures .1)
     (e .commit-checked .result) (e .commit-checked .ensures)) (w .before .before .before .if2 .left)
     (w .write-checked .result .answer) (w .write-checked .result .length) (w .write-checked .last .1 .0)
-    (w .write-checked .ensures .0) (w .write-checked .ensures .1) (w .write-checked .ensures .2) (c .pack3 .result) (c .before .if3 .taken)
+    (w .write-checked .ensures .0) (w .write-checked .ensures .1) (w .write-checked .ensures .2)
+    (c .pack3 .result) (c .before .if3 .taken)
     (c .pack3 .ensures)
 
 pack-requires-4 : tie.Need-pack-requires-4
@@ -89,10 +92,12 @@ returns-4 c =
     let d = e .before .before .before .before in
     let s = d .before .before .before .before .before .before .before .args in
     way-done (s .image .now) (s .output .now) _ (sym (d .read .ensures .0) ∙ e .before .before .if1 .left)
-    (e .commit-checked .result) (committed-from (s .image .now) (s .ticket .now) (s .added .now) (s .removed .now) (d .read .ensures .1)
+    (e .commit-checked .result)
+    (committed-from (s .image .now) (s .ticket .now) (s .added .now) (s .removed .now) (d .read .ensures .1)
     (e .commit-checked .result) (e .commit-checked .ensures)) (w .before .before .before .if2 .left)
     (w .write-checked .result .answer) (w .write-checked .result .length) (w .write-checked .last .1 .0)
-    (w .write-checked .ensures .0) (w .write-checked .ensures .1) (w .write-checked .ensures .2) (c .pack4 .result) (c .before .if3 .left)
+    (w .write-checked .ensures .0) (w .write-checked .ensures .1) (w .write-checked .ensures .2)
+    (c .pack4 .result) (c .before .if3 .left)
     (c .pack4 .ensures)
 
 pub commit-on-image-spec : {M : Type 1} → statement M

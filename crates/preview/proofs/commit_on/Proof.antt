@@ -14,7 +14,9 @@ copy-words-requires c κs = sym (c .before .before .before .before .before .befo
 
 try-ticket-requires : tie.Need-try-ticket-requires
 try-ticket-requires c κs =
-    subst (Table product) (sym (c .before .before .before .copy-words .ensures)) (c .before .before .before .before .before .before .before .before .before .before .before .pre .0)
+    let at-copy = c .before .before .before in
+    let s = at-copy .before .before .before .before .before .before .before .before in
+    subst (Table product) (sym (at-copy .copy-words .ensures)) (s .pre .0)
 
 refused-requires : tie.Need-refused-requires
 refused-requires c κs = search needs
@@ -52,12 +54,16 @@ same-length-4 c = search needs
 
 returns-2 : tie.Need-returns-2
 returns-2 c =
-    let at-try = c .before .before .before .before .before .before .before .before .before .before .before .before .before in
+    let at-test = c .before .before .before .before .before in
+    let at-current = at-test .before in
+    let at-accepted = at-current .before .before .before in
+    let at-try = at-accepted .before .before .before .before in
     let at-copy = at-try .before .before .before .before in
     let s = at-copy .before .before .before .before .before .before .before .before in
     way-committed (now (s .args .ticket)) (now (s .args .added)) (now (s .args .removed)) (at-try .try-ticket .result) (s .pre .0)
-    (at-copy .copy-words .ensures) (at-try .try-ticket .ensures) (c .before .before .before .before .before .before .before .before .before .if1 .left)
-    (sym (c .before .before .before .before .before .if2 .taken) ∙ c .before .before .before .before .before .before .is-current .ensures) (c .before .before .copy-words2 .ensures)
+    (at-copy .copy-words .ensures) (at-try .try-ticket .ensures)
+    (at-accepted .if1 .left) (sym (at-test .if2 .taken) ∙ at-current .is-current .ensures)
+    (c .before .before .copy-words2 .ensures)
 
 refused-requires-2 : tie.Need-refused-requires-2
 refused-requires-2 c κs = search needs

@@ -28,12 +28,20 @@ returns-2 c =
 is-missing-requires : tie.Need-is-missing-requires
 is-missing-requires c κs =
     let s = c .before .before .before .before .before .before .before .before in
-    record { laid = s .pre .came .laid; otherLaid = s .pre .came .otherLaid; many = c .before .before .if1 .left ∙ s .pre .came .many }
+    record {
+      laid = s .pre .came .laid;
+      otherLaid = s .pre .came .otherLaid;
+      many = c .before .before .if1 .left ∙ s .pre .came .many;
+    }
 
 is-missing-requires-2 : tie.Need-is-missing-requires-2
 is-missing-requires-2 c κs =
     let s = c .before .before .before .before .before .before .before .before .before .before in
-    record { laid = s .pre .went .laid; otherLaid = s .pre .went .otherLaid; many = c .before .before .if2 .left ∙ s .pre .went .many }
+    record {
+      laid = s .pre .went .laid;
+      otherLaid = s .pre .went .otherLaid;
+      many = c .before .before .if2 .left ∙ s .pre .went .many;
+    }
 
 returns-3 : tie.Need-returns-3
 returns-3 c = second-decides _ _ (sym (c .before .if3 .taken) ∙ c .before .before .is-missing .ensures) (c .is-missing2 .ensures)

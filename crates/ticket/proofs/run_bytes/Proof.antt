@@ -34,7 +34,8 @@ returns-2 c =
     let a = c .before .before .run-ticket in
     let d = c .before .before .before .before .decode in
     let s = c .before .before .before .before .before .before .before .before in
-    subst (λ l. AnsweredAs (s .args .keep) (a .result) (a .last .1 .0) (step product (now (s .args .table)) l)) (d .ensures) (a .ensures)
+    subst (λ l. AnsweredAs (s .args .keep) (a .result) (a .last .1 .0) (step product (now (s .args .table)) l)) (d .ensures)
+    (a .ensures)
 
 pub run-bytes-spec : {M : Type 1} → statement M
 run-bytes-spec =

@@ -76,8 +76,9 @@ returns-2 c =
     let at-count = at-wide .before .before .before .before in
     let at-form = at-count .before .before in
     let s = at-form .before .before .before in
-    answered-stepped-as (s .args .keep) (c .answer-of .ensures) (subst (λ l. SteppedAs (s .args .keep) (at-count .count-facts .result) (at-run .run-insertion .result)
-    (at-run .run-insertion .last .1 .0) (step product (now (s .args .table)) l)) (wide-bytes (s .args .ticket) (at-test .if2 .taken)
+    answered-stepped-as (s .args .keep) (c .answer-of .ensures) (subst (λ l. SteppedAs (s .args .keep)
+    (at-count .count-facts .result) (at-run .run-insertion .result) (at-run .run-insertion .last .1 .0)
+    (step product (now (s .args .table)) l)) (wide-bytes (s .args .ticket) (at-test .if2 .taken)
     (at-wide .before .before .before .wide .ensures) (at-wide .before .before .wide2 .ensures) (at-wide .before .wide3 .ensures)
     (at-wide .wide4 .ensures)) (at-run .run-insertion .ensures))
 
@@ -116,7 +117,8 @@ returns-3 c =
     let at-count = at-wide .before .before .before .before in
     let at-form = at-count .before .before in
     let s = at-form .before .before .before in
-    answered-as (s .args .keep) (answered-stepped (c .answer-of2 .ensures) (subst (λ l. Stepped (at-count .count-facts .result) (at-run .run-deletion .result)
+    answered-as (s .args .keep) (answered-stepped (c .answer-of2 .ensures) (subst (λ l. Stepped
+    (at-count .count-facts .result) (at-run .run-deletion .result)
     (at-run .run-deletion .last .0) (step product (now (s .args .table)) l))
     (wide-bytes (s .args .ticket) (deletes-else (s .args .ticket) (at-form .before .form-refusal .ensures) (at-form .if1 .left)
     (at-test .if2 .left))

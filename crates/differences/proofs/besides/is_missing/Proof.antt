@@ -38,7 +38,8 @@ returns c =
     let counts = c .before .before .before in
     let start = counts .before .before .before .before .before in
     c .is-besides .ensures
-    ∙ ap (sameList (now (start .args .run))) (missing-is (start .pre) (counts .before .count-facts .ensures) (counts .count-facts2 .ensures))
+    ∙ ap (sameList (now (start .args .run)))
+    (missing-is (start .pre) (counts .before .count-facts .ensures) (counts .count-facts2 .ensures))
 
 pub is-missing-spec : {M : Type 1} → statement M
 is-missing-spec =

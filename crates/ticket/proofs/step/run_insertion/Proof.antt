@@ -47,7 +47,8 @@ returns-3 : tie.Need-returns-3
 returns-3 c =
     let u = c .before .before .before .before .before .before in
     let s = u .before .before .before .before in
-    stepped-as (s .args .keep) (way-no-class (s .pre) (sym (u .if1 .left) ∙ u .before .is-unknown-property .ensures) (sym (c .if3 .taken)
+    stepped-as (s .args .keep) (way-no-class (s .pre) (sym (u .if1 .left) ∙ u .before .is-unknown-property .ensures)
+    (sym (c .if3 .taken)
     ∙ c .before .is-unknown-class .ensures))
 
 clashes-requires : tie.Need-clashes-requires
