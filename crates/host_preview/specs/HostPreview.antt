@@ -30,11 +30,11 @@ abbrev pub runAfter : (image run asked : List ℕ) → List ℕ
 runAfter image run asked = cond (eqb (readAnswer room image) 0) asked run
 
 -- `vimelosa_ask`: the number, and every word of the runs.
-pub record HostAskPromise (image ticket added removed : List ℕ) (number : ℕ) (added′ removed′ : List ℕ) : Type 0
-  where
-    pub answer : number ≡ askNumber image (askedOn image ticket added removed)
-    pub addedRun : added′ ≡ runAfter image added (askedOn image ticket added removed .addedRun)
-    pub removedRun : removed′ ≡ runAfter image removed (askedOn image ticket added removed .removedRun)
+pub record HostAskPromise (image ticket added removed : List ℕ) (number : ℕ)
+    (added′ removed′ : List ℕ) : Type 0 where
+  pub answer : number ≡ askNumber image (askedOn image ticket added removed)
+  pub addedRun : added′ ≡ runAfter image added (askedOn image ticket added removed .addedRun)
+  pub removedRun : removed′ ≡ runAfter image removed (askedOn image ticket added removed .removedRun)
 
 -- `vimelosa_commit`: as a call with one ticket, by the answer of committing.
 abbrev pub HostCommitPromise : (image ticket added removed output : List ℕ) → ℕ → List ℕ → Type 0
