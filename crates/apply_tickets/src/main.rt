@@ -2,6 +2,8 @@
 // prints answer, added and removed on a line; 1 to 4 bytes left over are a ticket of that length. Last it
 // prints the count of facts. Input may be of any length. If a read or a write fails, a line on standard error
 // says so and nothing more is printed, so that the count is missing.
+#![tactic(auto)]
+
 ghost use Rattle.std.specs.Prelude.{◌≡◌, length};
 ghost use Rattle.rdfs.specs.Numbers.{product};
 ghost use Rattle.report.specs.Turns.{Sized, Finishes};

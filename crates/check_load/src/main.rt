@@ -1,5 +1,7 @@
 // For the benchmark: reads an image from standard input, checks its table again and again, and prints how
 // many of the checks accepted it. For a refused image it prints nothing.
+#![tactic(auto)]
+
 ghost use Rattle.std.specs.Prelude.{◌≤◌};
 
 use consistency::check;

@@ -1,6 +1,8 @@
 // Reads a text from standard input into 2,048 words and prints the answer, 0, 15, 11 or 3, and a newline. Of
 // a text of more than 1,048,576 bytes it prints nothing, and a line on standard error says so. If a read or a
 // write fails, a line on standard error says so; after a failed read nothing is printed.
+#![tactic(auto)]
+
 ghost use Rattle.std.specs.Prelude.{◌≤◌, length, replicate};
 ghost use Rattle.rdfs.specs.Numbers.{product};
 ghost use Rattle.text.specs.Text.{Number, Puts};

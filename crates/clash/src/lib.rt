@@ -3,6 +3,8 @@
 //
 // The functions serve the crates above. Each requires a table that is laid out, the number of its facts, and
 // ids up to the highest; of a kind `clashes` asks nothing. Nothing is written. The crate assumes nothing.
+#![tactic(auto)]
+
 mod lookups;
 mod parts;
 

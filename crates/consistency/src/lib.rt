@@ -5,6 +5,8 @@
 // are met before the first that is broken, and which that is. The crate assumes nothing. A call takes the
 // stack of the index and of a span's stamps, and some hundred bytes; rule E2's links and stamps take less,
 // and stand where the index stood.
+#![tactic(auto)]
+
 mod visit;
 
 ghost use Rattle.std.specs.Prelude.{◌≡◌, ◌≤◌, T, length};

@@ -6,6 +6,8 @@
 // all numbers, where its part lies and what it holds, in the form that the bytes are read in. The rest serves
 // crates `writing`, `reading` and `image`: it takes the form as an argument, and has a `requires` for it and
 // where it reads an entry or a body. The crate assumes nothing.
+#![tactic(auto)]
+
 ghost use Rattle.contents.specs.BodyPromise.{BodyPromise};
 
 mod bodies;

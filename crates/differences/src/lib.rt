@@ -3,6 +3,8 @@
 //
 // `put_missing` and `is_missing` serve the crates above; what they require stands in their contracts. The
 // crate assumes nothing.
+#![tactic(auto)]
+
 mod besides;
 
 pub use besides::{is_missing, put_missing};

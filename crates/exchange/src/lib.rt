@@ -4,6 +4,8 @@
 // answers and every byte that it leaves, through the definitions of reading and writing. `put_text` and
 // `put_image` serve the programs: with room for the longest, what is printed, nothing on refusal. The crate
 // assumes nothing. The table between is the call's own: 8 KB of stack, beside those of the steps.
+#![tactic(auto)]
+
 ghost use Rattle.std.specs.Prelude.{◌≡◌, ◌≤◌, length, take};
 ghost use Rattle.triples.specs.ReadTriples.{read_triples_answer};
 ghost use Rattle.exchange.specs.ToText.{room, ToTextPromise};

@@ -3,6 +3,8 @@
 //
 // The functions serve the crates above. Each requires a table that is laid out, the number of its facts, and
 // ids up to the highest. Nothing is written. The crate assumes nothing.
+#![tactic(auto)]
+
 ghost use Rattle.std.specs.Prelude.{◌≡◌, [], ◌∷◌};
 ghost use Rattle.rdfs.specs.Clashes.{two_holders};
 ghost use Rattle.rdfs.specs.Lookups.{value_taken, values_shared};

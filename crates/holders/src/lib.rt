@@ -8,6 +8,8 @@
 //
 // Links and stamps take 5,120 bytes of stack: two for each of 2,048 words and for twice 256 ids. With ids up
 // to 4,095 and 16,384 words they would take 49,152.
+#![tactic(auto)]
+
 mod links;
 mod walk;
 

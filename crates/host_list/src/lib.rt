@@ -2,6 +2,8 @@
 //
 // `run_on_image` is what the host's list calls do; it has no `requires`: it says, for all bytes, the number
 // that it answers and every byte that it leaves. The crate assumes nothing.
+#![tactic(auto)]
+
 ghost use Rattle.std.specs.Prelude.{◌≡◌};
 ghost use Rattle.reading.specs.ReadPromise.{read_words};
 ghost use Rattle.host_list.specs.HostList.{read_refusal, host_list_refusal, HostListPromiseAs, HasRoom};

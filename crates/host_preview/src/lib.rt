@@ -3,6 +3,8 @@
 // `ask_on_image` and `commit_on_image` are what the host's calls of Ask 6 do; they have no `requires`: each
 // says, for all bytes and all words of the runs, the number that it answers and every word and byte that it
 // leaves. The crate assumes nothing.
+#![tactic(auto)]
+
 ghost use Rattle.host_preview.specs.HostPreview.{HostAskPromise, HostCommitPromise};
 
 use image::{read, write_checked};

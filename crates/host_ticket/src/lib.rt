@@ -2,6 +2,8 @@
 //
 // `apply_on_image` is what the host's calls with one ticket do; it has no `requires`: it says, for all bytes,
 // the number that it answers and every byte that it leaves. The crate assumes nothing.
+#![tactic(auto)]
+
 ghost use Rattle.host_ticket.specs.HostTicket.{HostPromiseAs};
 
 use image::{read, write_checked};

@@ -7,6 +7,8 @@
 // table, and no other image with eleven is read; one with ten is read as a table without facts of kind 11
 // (proofs/ImageTheorems.antt, proofs/ImageCallTheorems.antt). `write_checked` serves the crates above:
 // writing without the check. The crate assumes nothing.
+#![tactic(auto)]
+
 pub use contents::{FIRST_BODY, LONGEST, body};
 pub use reading::read;
 pub use writing::{Written, write, write_checked};

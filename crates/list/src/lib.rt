@@ -5,6 +5,8 @@
 // call, is proved here (proofs/ListTheorem), and what a list of operators' tickets keeps
 // (proofs/OperatorListTheorems). `run_checked` and `run_unanswered` serve the crates above: the list on a
 // table known to be consistent, with answers and without. The crate assumes nothing.
+#![tactic(auto)]
+
 ghost use Rattle.std.specs.Prelude.{◌≡◌, ◌≤◌, length};
 ghost use Rattle.rdfs.specs.Numbers.{product, record_length};
 ghost use Rattle.rdfs.specs.Register.{cut, Table};

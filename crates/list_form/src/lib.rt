@@ -4,6 +4,8 @@
 // The functions serve the crates above, whose list calls do this besides running their tickets; none is a
 // call of a host. `put_answer` and `sum_up` have a `requires`, on the counts that a list call keeps; the
 // others have none. What a list call answers and leaves is defined here, in specs. The crate assumes nothing.
+#![tactic(auto)]
+
 mod answers;
 mod tickets;
 

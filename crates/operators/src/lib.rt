@@ -4,6 +4,8 @@
 // of a ticket, the answer, both counts and every word afterwards; they are those of the register's step with
 // refusal 17 directly after 7. `apply_as` serves the crates above: a ticket of an operator or of anyone, on a
 // table known to be consistent. The crate assumes nothing.
+#![tactic(auto)]
+
 ghost use Rattle.std.specs.Prelude.{◌≡◌};
 ghost use Rattle.rdfs.specs.Numbers.{product};
 ghost use Rattle.rdfs.specs.Register.{Table};

@@ -3,6 +3,8 @@
 //
 // The functions serve the crates above; what they require stands in their contracts. The crate assumes
 // nothing.
+#![tactic(auto)]
+
 ghost use Rattle.std.specs.Prelude.{◌≡◌, ◌<◌};
 ghost use Rattle.packing.specs.Packed.{packed, packed_text};
 

@@ -8,6 +8,8 @@
 // Each takes one ticket's work on a copy of the table, 8 KB of stack, and one pass over the table and the
 // copy: a run of no words takes none, and a ticket fills one run at most, since an insertion removes nothing
 // and a deletion adds nothing.
+#![tactic(auto)]
+
 ghost use Rattle.std.specs.Prelude.{◌≡◌, length};
 ghost use Rattle.rdfs.specs.Numbers.{product};
 ghost use Rattle.rdfs.specs.Register.{Table};

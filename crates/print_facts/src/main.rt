@@ -1,6 +1,8 @@
 // Program two: reads an image from standard input into 2,048 words and prints its facts, one decimal word a
 // line. For a refused image it prints nothing. Input longer than the longest image is refused, not cut. If a
 // read or a write fails, a line on standard error says so; after a failed read nothing is printed.
+#![tactic(auto)]
+
 mod lines;
 
 use image::LONGEST;

@@ -4,6 +4,8 @@
 // what it answers and every word afterwards; an image with ten entries is read too, and has no fact of kind
 // 11. `store_words` serves the crates above: the words of an image
 // with right contents, without the check. The crate assumes nothing.
+#![tactic(auto)]
+
 ghost use Rattle.reading.specs.ReadPromise.{ReadPromise};
 
 mod reader;

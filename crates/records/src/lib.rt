@@ -3,6 +3,8 @@
 // The public call is `apply_records`. It has no `requires`: it says, for all inputs, its answer, both counts,
 // and every word and byte afterwards; they are those of `list::apply_list` with the tickets' bytes. The walk
 // decides nothing: it hands each ticket to a covered function. The crate assumes nothing.
+#![tactic(auto)]
+
 ghost use Rattle.std.specs.Prelude.{◌≡◌, ◌≤◌, ◌<◌, map, length, take, get_or};
 ghost use Rattle.rdfs.specs.Numbers.{product};
 ghost use Rattle.rdfs.specs.Register.{step, run, Table};

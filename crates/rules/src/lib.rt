@@ -2,6 +2,8 @@
 //
 // `meets` serves the check of a table. What the rules before one show is required where its test relies on
 // it. Nothing is written. The crate assumes nothing.
+#![tactic(auto)]
+
 ghost use Rattle.rdfs.specs.Rules.{Meets};
 ghost use Rattle.table.specs.Answers.{Decides};
 ghost use Rattle.spans.specs.Spans.{Indexed};

@@ -39,6 +39,8 @@
 //                            copy's words; then how many were read otherwise, and refused otherwise
 //
 // An empty line and one that begins with # are passed over. Any other line prints a question mark.
+#![tactic(auto)]
+
 mod calls;
 mod command;
 mod damage;

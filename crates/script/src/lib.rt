@@ -4,6 +4,8 @@
 // The functions serve the program. Those that answer a place or a length within what is lent promise it; the
 // others promise nothing. `find_byte` asks for a place within its text. Assumed are the kit's libc functions,
 // for writing.
+#![tactic(auto)]
+
 mod compare;
 mod line;
 mod put;

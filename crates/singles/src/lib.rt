@@ -2,6 +2,8 @@
 //
 // The public call is `apply_each`. It has no `requires`: it says, for all inputs, its answer, both counts,
 // and every word and byte afterwards; they are those of `list::apply_list`. The crate assumes nothing.
+#![tactic(auto)]
+
 ghost use Rattle.std.specs.Prelude.{false, ◌≤◌, length};
 ghost use Rattle.rdfs.specs.Numbers.{product, record_length};
 ghost use Rattle.rdfs.specs.Register.{cut};

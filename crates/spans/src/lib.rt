@@ -7,6 +7,8 @@
 //
 // The index of spans takes 5,632 bytes of stack, two for each of 11 times 256 spans, and the stamps of a span
 // 512. With ids up to 4,095 the index would take 90,112 and the stamps 8,192.
+#![tactic(auto)]
+
 mod index;
 mod merge;
 mod present;

@@ -4,6 +4,8 @@
 // No function has a `requires`. The crate assumes the kit's contracts of `libc::read` and `libc::write`,
 // which say how many bytes a call moves; which bytes they are, and from or to which stream, no contract can
 // say.
+#![tactic(auto)]
+
 ghost use Rattle.streams.specs.Input.{Within, Ends};
 ghost use Rattle.std.specs.Prelude.{◌≡◌, length};
 

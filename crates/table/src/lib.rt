@@ -2,6 +2,8 @@
 //
 // The functions serve the crates above; what they require stands in their contracts. The public calls `fresh`
 // and `lookup` stand in `table_calls`. The crate assumes nothing.
+#![tactic(auto)]
+
 mod layout;
 mod refusals;
 mod room;

@@ -2,6 +2,8 @@
 //
 // The public calls are `fresh` and `lookup`. They have no `requires`: each says, for all inputs, what it
 // answers and every word afterwards. The crate assumes nothing.
+#![tactic(auto)]
+
 ghost use Rattle.std.specs.Prelude.{◌≡◌};
 ghost use Rattle.table_calls.specs.Calls.{fresh_answer, fresh_words, lookup_answer, lookup_present};
 

@@ -2,6 +2,8 @@
 //
 // The functions serve the crate above; what they require stands in their contracts. The crate assumes
 // nothing.
+#![tactic(auto)]
+
 mod measure;
 mod put;
 mod read;

@@ -2,6 +2,8 @@
 //
 // Both functions serve the programs and their libraries. `put_number` requires that the number's text has
 // room; `digit_of` requires nothing. The crate assumes nothing.
+#![tactic(auto)]
+
 ghost use Rattle.std.specs.Prelude.{◌≡◌, ◌<◌};
 ghost use Rattle.text.specs.Text.{Number, Fits, Puts};
 ghost use Rattle.text.specs.Digit.{digit_value};

@@ -10,6 +10,8 @@
 // the table, but for the check in `apply`. An insertion that puts something in first saves the words of the
 // table's facts, 8 KB of stack, and puts them back if the new graph does not fit, 11; on a work table it
 // saves nothing.
+#![tactic(auto)]
+
 ghost use Rattle.std.specs.Prelude.{false};
 ghost use Rattle.rdfs.specs.Numbers.{product};
 ghost use Rattle.rdfs.specs.Register.{step, Table};

@@ -4,6 +4,8 @@
 // `requires`; `decode` asks for the length of a record, `is_unknown_property`, `is_unknown_class` and
 // `has_asked` for a table with the number of its facts and a ticket past refusal 8. The crate assumes
 // nothing.
+#![tactic(auto)]
+
 mod fields;
 mod form;
 mod ids;

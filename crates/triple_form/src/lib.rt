@@ -3,6 +3,8 @@
 //
 // The functions serve the crate above; what they require stands in their contracts. A line that is read is
 // inside the profile exactly if it is the line of a fact that a table can have. The crate assumes nothing.
+#![tactic(auto)]
+
 mod fact;
 mod line;
 

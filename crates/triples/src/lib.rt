@@ -3,6 +3,8 @@
 // The public calls are `write_triples` and `read_triples`. They have no `requires`: each says, for all
 // inputs, what it answers and every word or byte afterwards. `write_checked` and `fill_text` serve the crate
 // above: writing without the check, and the words of a text without it. The crate assumes nothing.
+#![tactic(auto)]
+
 ghost use Rattle.std.specs.Prelude.{length};
 ghost use Rattle.rdfs.specs.Numbers.{product};
 ghost use Rattle.rdfs.specs.Register.{Table};

@@ -12,6 +12,8 @@
 // The table that an image is read into is the call's own: 8 KB of stack, beside those of the steps. It is
 // checked once, by reading. A list with a short output is read twice, each time into a table that is gone
 // before the other is there.
+#![tactic(auto)]
+
 mod check_call;
 mod list_call;
 mod operator_call;

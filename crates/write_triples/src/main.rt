@@ -1,6 +1,8 @@
 // Reads an image from standard input into 2,048 words and prints the text of its graph. For a refused image
 // it prints nothing. Input longer than the longest image is refused, not cut. If a read or a write fails, a
 // line on standard error says so; after a failed read nothing is printed.
+#![tactic(auto)]
+
 use exchange::{LONGEST_TEXT, put_text};
 use image::LONGEST;
 use streams::{Filled, read_input, write_output};

@@ -4,6 +4,8 @@
 // what it answers and every byte afterwards. `write_checked` and `length_checked` serve the crates above:
 // writing without the check, and the length that it takes. They require a consistent table. The crate assumes
 // nothing.
+#![tactic(auto)]
+
 ghost use Rattle.std.specs.Prelude.{◌≡◌, length};
 ghost use Rattle.rdfs.specs.Numbers.{product};
 ghost use Rattle.rdfs.specs.Register.{Table};

@@ -46,6 +46,7 @@ module _ {A : Type 0} where
       (r.0, there r.1, r.2)) (or_either (p y) (any p l) t)
 
   pub in_any : (p : A → Bool) {x : A} {l : List A} → x ∈ l → T (p x) → T (any p l)
+  in_any p {x = x} {l = []} h t = elim h [ ]
   in_any p {x} {l = y ∷ l} (here e) t = either_or (p y) (any p l) (inl (subst (λ z. T (p z)) e t))
   in_any p {x} {l = y ∷ l} (there h) t = either_or (p y) (any p l) (inr (in_any p h t))
 
