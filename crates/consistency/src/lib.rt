@@ -26,7 +26,7 @@ use table::{INCONSISTENT, Word, count_facts, layout_refusal};
 use visit::{INDEXED, RULES, rule_at, visit};
 
 // What a visit of all rules, one after another, finds.
-#[derive(Drop)]
+#[derive(Clone, Copy)]
 pub enum Visited {
     // Each is met.
     AllMet,

@@ -12,7 +12,7 @@ use crate::form::{Form, fact_size};
 use table::{Word, arity_of, is_fact, word_of};
 
 // What a walk over the facts of a body finds.
-#[derive(Drop)]
+#[derive(Clone, Copy)]
 pub enum Rise {
     // The last word, or the one before the body if it is empty: the words are facts, each above the one
     // before.

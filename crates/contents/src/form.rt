@@ -15,7 +15,7 @@ ghost use Rattle.contents.specs.Legible.{form_of, fact_bytes, Legible};
 use table::{KINDS, MOST, Word, arity_of};
 
 // The numbers of a form.
-#[derive(Drop)]
+#[derive(Clone, Copy)]
 pub struct Form {
     // The edition.
     pub edition: usize,

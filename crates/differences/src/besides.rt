@@ -8,7 +8,7 @@ ghost use Rattle.differences.specs.Besides.{Apart, NextBeside, Measured, Missing
 use table::{Word, count_facts};
 
 // A place among the words, and how many of the others have been passed.
-#[derive(Drop)]
+#[derive(Clone, Copy)]
 pub struct Next {
     pub place: usize,
     pub past: usize,

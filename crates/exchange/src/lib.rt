@@ -24,7 +24,7 @@ pub const LONGEST_TEXT: usize = LONGEST_LINE * MOST;
 
 // What turning a text into an image answers: 0 or a refusal; for 3 the place, counted from 1 in the paper's
 // order, of the first rule that the text's graph breaks, else 0; the image's length, 0 on refusal.
-#[derive(Drop)]
+#[derive(Clone, Copy)]
 pub struct Imaged {
     pub answer: u8,
     pub place: u16,

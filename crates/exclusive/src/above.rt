@@ -15,7 +15,7 @@ use table::{
 };
 
 // The places of some words.
-#[derive(Drop)]
+#[derive(Clone, Copy)]
 pub struct Stretch {
     pub from: usize,
     pub to: usize,

@@ -8,7 +8,7 @@ use table::{FEW_ANSWERS, Word};
 
 // What a list call answers: 0 or a refusal, and how many tickets were accepted and how many refused, both 0
 // on refusal.
-#[derive(Drop)]
+#[derive(Clone, Copy)]
 pub struct Listed {
     pub answer: u8,
     pub accepted: usize,

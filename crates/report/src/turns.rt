@@ -7,7 +7,7 @@ use streams::{Filled, read_input, write_output};
 use table::Word;
 
 // What a turn came to.
-#[derive(Drop)]
+#[derive(Clone, Copy)]
 pub enum Turned {
     // The chunk was full, and its lines are written: more input may follow.
     More,

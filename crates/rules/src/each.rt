@@ -14,7 +14,7 @@ use table::{CLASS, PROPERTY, Word, first_of, second_of, third_of, word_of};
 
 // What is asked of the ids a, b, c of a word. No test has more than one kind with it: so small a value is
 // passed as a number, and most rules are compiled to a loop of their own.
-#[derive(Drop)]
+#[derive(Clone, Copy)]
 pub enum Test {
     // a has the fact of a kind, as its only id or with Resource beside it; or has it not.
     Has(Word),

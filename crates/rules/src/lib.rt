@@ -21,7 +21,7 @@ use table::{
 mod each;
 
 // The rules by their numbers in Fig. 3, H1 to H4 of document 01, E1 and E2 of document 02.
-#[derive(Drop)]
+#[derive(Clone, Copy)]
 pub enum Rule {
     R4,
     R5,

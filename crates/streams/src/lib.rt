@@ -23,7 +23,7 @@ pub fn text_buffer() -> [u8; TEXT + 1]
 }
 
 // What reading into a buffer came to.
-#[derive(Drop)]
+#[derive(Clone, Copy)]
 pub enum Filled {
     // This many bytes stand at its start: all of it, or fewer, and then the input ended after them.
     Read(usize),

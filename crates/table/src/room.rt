@@ -9,7 +9,7 @@ ghost use Rattle.table.specs.Storing.{StoreMeans};
 use crate::search::{Found, find};
 use crate::words::Word;
 
-#[derive(Drop)]
+#[derive(Clone, Copy)]
 pub enum Stored {
     // The word stands in the table already.
     There,

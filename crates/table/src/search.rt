@@ -7,7 +7,7 @@ ghost use Rattle.table.specs.Counted.{Lookup, facts_of};
 
 use crate::words::{Word, is_below, word_of};
 
-#[derive(Drop)]
+#[derive(Clone, Copy)]
 pub enum Found {
     // The word stands at this place.
     At(usize),

@@ -59,7 +59,7 @@ pub const EXCLUSIVE: Word = 11;
 pub const KINDS: Word = 11;
 
 // The numbers that the definitions take as parameters.
-#[derive(Drop)]
+#[derive(Clone, Copy)]
 pub struct Limits {
     pub top: Word,
     pub base: Word,

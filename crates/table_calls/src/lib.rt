@@ -13,7 +13,7 @@ use table::{
 };
 
 // What a lookup answers: 0 or a refusal, and whether the word is among the table's facts.
-#[derive(Drop)]
+#[derive(Clone, Copy)]
 pub struct Looked {
     pub answer: u8,
     pub present: bool,

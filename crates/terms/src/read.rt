@@ -10,14 +10,14 @@ use crate::term::Term;
 use table::{MARK, RESOURCE, TOP, Word};
 
 // A number read, 0 for none, and the place after its digits.
-#[derive(Drop)]
+#[derive(Clone, Copy)]
 struct Number {
     value: Word,
     next: usize,
 }
 
 // A term read, and the place after the blank behind it.
-#[derive(Drop)]
+#[derive(Clone, Copy)]
 pub struct Ended {
     pub term: Term,
     pub next: usize,

@@ -1,7 +1,7 @@
 // The terms of the profile.
 use table::Word;
 
-#[derive(Drop)]
+#[derive(Clone, Copy)]
 pub enum Term {
     // The IRI of an id: rdfs:Resource for 0, rdfs:Literal for the mark.
     Id(Word),

@@ -6,7 +6,7 @@ ghost use Rattle.ticket.specs.Answered.{refused_answer, number_of, Valued, Fits}
 use crate::step::Step;
 
 // What a ticket answers: 0 or a refusal, and how many facts it added and removed.
-#[derive(Drop)]
+#[derive(Clone, Copy)]
 pub struct Applied {
     pub answer: u8,
     pub added: u16,

@@ -16,7 +16,7 @@ use table::{
 use ticket_form::{has_asked, is_unknown_class, is_unknown_property};
 
 // What an inner step answers.
-#[derive(Drop)]
+#[derive(Clone, Copy)]
 pub enum Step {
     // The table has this many facts now.
     Facts(usize),

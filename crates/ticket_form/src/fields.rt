@@ -14,7 +14,7 @@ pub const INSERT: u8 = 1;
 pub const DELETE: u8 = 2;
 
 // Operation 1 inserts and 2 deletes; kind and ids as in document 01.
-#[derive(Drop)]
+#[derive(Clone, Copy)]
 pub struct Ticket {
     pub operation: u8,
     pub kind: u8,

@@ -12,7 +12,7 @@ use table::{
 use terms::Term;
 
 // The word of a fact, 0 for none, and whether its object is a literal.
-#[derive(Drop)]
+#[derive(Clone, Copy)]
 pub struct Told {
     pub word: Word,
     pub literal: bool,

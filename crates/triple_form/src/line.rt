@@ -19,7 +19,7 @@ use terms::{Term, has_at, put_ended, put_piece, read_ended, term_length};
 pub const LONGEST_LINE: usize = 154;
 
 // A line read: the word of its fact, 0 for none; whether its object is a literal; the place after it.
-#[derive(Drop)]
+#[derive(Clone, Copy)]
 pub struct Read {
     pub word: Word,
     pub literal: bool,

@@ -22,7 +22,7 @@ use table::{BAD_SIZE, MOST, SHORT_OUTPUT, Word, count_facts, is_bad_size};
 use writer::{flag_literals, put_text, text_length};
 
 // What writing answers: 0 or a refusal, and the text's length, 0 on refusal.
-#[derive(Drop)]
+#[derive(Clone, Copy)]
 pub struct Text {
     pub answer: u8,
     pub length: usize,

@@ -30,7 +30,7 @@ use table::{
 };
 use triple_form::read_line;
 
-#[derive(Drop)]
+#[derive(Clone, Copy)]
 pub enum Filled {
     // All words are stored, and the table has this many facts.
     To(usize),

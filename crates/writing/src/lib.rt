@@ -22,7 +22,7 @@ use writer::{find_ends, image_length, put_bodies, put_contents};
 const ENDS: usize = KINDS as usize + 1;
 
 // What writing answers: 0 or a refusal, and the image's length, 0 on refusal.
-#[derive(Drop)]
+#[derive(Clone, Copy)]
 pub struct Written {
     pub answer: u8,
     pub length: u16,
