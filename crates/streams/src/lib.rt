@@ -10,6 +10,12 @@ ghost use Rattle.std.specs.Prelude.{◌≡◌, length};
 
 use std::io::{Input, Read};
 
+// The descriptors of standard input and standard output, for the programs that read and print by the kit's
+// `io`.
+pub const STDIN: i32 = 0;
+
+pub const STDOUT: i32 = 1;
+
 // The most bytes of a text that a program reads.
 pub const TEXT: usize = 1048576;
 
