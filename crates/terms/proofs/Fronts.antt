@@ -89,6 +89,7 @@ NoneOf l [] = Unit {0}
 NoneOf l (piece ∷ pieces) = (Begins l piece → ⊥) × NoneOf l pieces
 
 none_in_front : (l : List ℕ) (pieces : List (List ℕ)) → NoneOf l pieces → (piece : List ℕ) → piece ∈ pieces → Begins l piece → ⊥
+none_in_front l [] n piece h b = elim h [ ]
 none_in_front l (p ∷ pieces) n piece h b = ⊎_elim (λ e. n.0 (subst (Begins l) e b))
     (λ k. none_in_front l pieces n.1 piece k b) (in_cons h)
 

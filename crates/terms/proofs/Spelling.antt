@@ -96,6 +96,7 @@ unlike_apart : {t : Term} (front : List ℕ) (ts : List Term) → T (unlike fron
 unlike_apart {t} front ts f h r s e = apart front (spelt t) r s (all_in (λ u. not (agree front (spelt u))) f h) e
 
 free_one : {t u : Term} (ts : List Term) → T (free ts) → t ∈ ts → u ∈ ts → (r s : List ℕ) → spelt t ++ r ≡ spelt u ++ s → t ≡ u
+free_one {t = t} {u = u} [] f x4 _ r s e = elim x4 [ ]
 free_one (y ∷ ts) f (here a) (here b) r s e = a ∙ sym b
 free_one (y ∷ ts) f (here a) (there k) r s e = absurd (unlike_apart (spelt y) ts (and_both (unlike (spelt y) ts) (free ts) f).0 k
     r s (ap (λ v. spelt v ++ r) (sym a) ∙ e))
