@@ -2,7 +2,6 @@
 use mathlib.Core.Path.{sym}
 use mathlib.Core.List.{map}
 use lib.ListN.{get_or-map}
-use borrow.Author.Rules.{rules}
 use Rattle.rdfs.specs.Rules.{Rule, r4, r5, r6, r7, r8, r9, r10, r11, r12, r13, r14, r15, r16, r17, r18, r19, r20, r21, r22}
 use Rattle.rdfs.specs.Rules.{r23, r24, r25, r26, r27, h1, h2, h3, h4, e1, e2}
 use Rattle.rules.specs.declared.Rule as code
@@ -10,8 +9,7 @@ use Rattle.rules.specs.declared.Rule.TheVariants.{R4, R5, R6, R7, R8, R9, R10, R
 use Rattle.rules.specs.declared.Rule.TheVariants.{R18, R19, R20, R21, R22, R23, R24, R25, R26, R27, H1, H2, H3, H4, E1, E2}
 use Rattle.rules.specs.RuleOf.{rule_of}
 use Rattle.consistency.specs.Order.{rules_in_order}
-use Rattle.consistency.proofs.visit.rule_at.Statement.{statement}
-use Rattle.consistency.proofs.visit.rule_at.Tie as tie
+use Rattle.consistency.proofs.visit.rule_at.Goals as goal
 
 -- The code's name of a rule; `ORDER` is those of `rules_in_order`, and no order is stated here.
 abbrev code_of : Rule → code.Rule
@@ -46,11 +44,5 @@ code_of h4 = H4
 code_of e1 = E1
 code_of e2 = E2
 
-array-copy-out-result : tie.Need-array-copy-out-result
-array-copy-out-result c = search rules
-
-returns : tie.Need-returns
-returns c = sym (get_or-map rule_of (map code_of rules_in_order) c.before.args.place R4)
-
-pub rule-at-spec : {M : Type 1} → statement M
-rule-at-spec = tie.close (tie.spec array-copy-out-result returns)
+pub returns : goal.returns
+returns c = record { answer = sym (get_or-map rule_of (map code_of rules_in_order) c.args.place R4) }
