@@ -45,7 +45,7 @@ module _ {G : Graph} where
   met_broken (pass p m) h = later p (met_broken m (omega arith))
 
   -- A rule that is broken leaves no list of met rules with it.
-  pub broken_not : {l : List Rule} {r : Rule} → FirstBroken G r l → MeetsAll G l → ⊥
+  pub broken_not : {r : Rule} {l : List Rule} → FirstBroken G r l → MeetsAll G l → ⊥
   broken_not (here n) (also p m) = n p
   broken_not (later k f) (also p m) = broken_not f m
 
@@ -66,7 +66,7 @@ module _ {G : Graph} where
   all_counted none = end
   all_counted (also p m) = pass p (all_counted m)
 
-  pub broken_counted : {l : List Rule} {r : Rule} → FirstBroken G r l
+  pub broken_counted : {r : Rule} {l : List Rule} → FirstBroken G r l
       → (n : ℕ) × (rule_at l n ≡ r) × (n < length l) × MetFirst G l n
   broken_counted (here b) = (0, refl, omega arith, stop b)
   broken_counted (later p f) = let c = broken_counted f in (suc c.0, c.1, omega (arith, c.2), pass p c.3)

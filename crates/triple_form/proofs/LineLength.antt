@@ -10,7 +10,7 @@ use lib.ListN.{length, length-append}
 use borrow.Author.Tests.{eqb-true, eqb-false}
 use Rattle.rdfs.specs.Numbers.{product}
 use Rattle.rdfs.specs.Facts.{Fact, cl, pr, ind, lit, excl, csub, psub, dom, rng, ci, pi, kind, second}
-use Rattle.rdfs.specs.Words.{fact, is_fact, allowed}
+use Rattle.rdfs.specs.Words.{is_fact, allowed}
 use Rattle.rdfs.proofs.Lists.Tests.{and_both}
 use Rattle.rdfs.proofs.Words.Allowed.{Fields, fields}
 use Rattle.rdfs.proofs.Words.LaidOut.{fact_allowed}

@@ -1,5 +1,5 @@
 -- What is read of a line: the fact of its terms, and the line at the start of some bytes.
-use Rattle.std.specs.Prelude.{ℕ, ◌+◌, ◌<◌, ◌≡◌, Bool, List, ◌++◌, T}
+use Rattle.std.specs.Prelude.{ℕ, ◌<◌, ◌≡◌, Bool, List, ◌++◌, T}
 use Rattle.rdfs.specs.Numbers.{product}
 use Rattle.rdfs.specs.Words.{word, fact, is_fact}
 use Rattle.triple_form.specs.Lines.{Line, subject, predicate, object, line_of, in_profile}

@@ -21,8 +21,8 @@ count_at-count-requires c =
 pub rise_of-rise-requires : goal.rise_of-rise-requires
 rise_of-rise-requires c =
     record {
-      facts = contents_facts c.requires.contents _ (omega arith) (omega (arith, c.loop-done-test.true)) _ _ c.start_at-from.ensures.answer
-          c.count_at-count.ensures.answer;
+      facts = contents_facts c.requires.contents _ (omega arith) (omega (arith, c.loop-done-test.true)) _ _
+          c.start_at-from.ensures.answer c.count_at-count.ensures.answer;
     }
 
 pub returns-in_default : goal.returns-in_default

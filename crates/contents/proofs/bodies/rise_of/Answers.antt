@@ -16,7 +16,10 @@ word_at-word-requires c =
 
 pub returns-then-word-top : goal.returns-then-word-top
 returns-then-word-top c =
-    record { answer = climb_low _ _ _ c.loop-passed.invariant c.loop-passed-test.true _ c.word_at-word.ensures.answer c.if-word-top.true }
+    record {
+      answer = climb_low _ _ _ c.loop-passed.invariant c.loop-passed-test.true _ c.word_at-word.ensures.answer
+          c.if-word-top.true;
+    }
 
 pub returns-then-not-good : goal.returns-then-not-good
 returns-then-not-good c =

@@ -20,7 +20,10 @@ id_at-a-requires-clause-within c = one_within c.requires.fact _ c.arity_of-ids.e
 
 pub word_of-requires : goal.word_of-requires
 word_of-requires c =
-    record { digits = kind_digits c.requires.fact _ c.arity_of-ids.ensures.answer _ _ _ c.id_at-a.ensures.bound (omega arith) (omega arith) }
+    record {
+      digits = kind_digits c.requires.fact _ c.arity_of-ids.ensures.answer _ _ _ c.id_at-a.ensures.bound (omega arith)
+          (omega arith);
+    }
 
 pub returns-then-ids-eq1 : goal.returns-then-ids-eq1
 returns-then-ids-eq1 c =
@@ -49,7 +52,8 @@ word_of-requires-then-ids-eq2 c =
 pub returns-then-ids-eq2 : goal.returns-then-ids-eq2
 returns-then-ids-eq2 c =
     record {
-      answer = c.word_of-then-ids-eq2.ensures.answer ∙ word_two c.requires.fact _ c.arity_of-ids.ensures.answer _ _ c.id_at-a.ensures.answer
+      answer = c.word_of-then-ids-eq2.ensures.answer
+          ∙ word_two c.requires.fact _ c.arity_of-ids.ensures.answer _ _ c.id_at-a.ensures.answer
           c.id_at-b.ensures.answer c.if-ids-eq2.true;
     }
 
@@ -64,7 +68,8 @@ pub id_at-c-requires-clause-form : goal.id_at-c-requires-clause-form
 id_at-c-requires-clause-form c = c.requires.fact.form
 
 pub id_at-c-requires-clause-within : goal.id_at-c-requires-clause-within
-id_at-c-requires-clause-within c = three_within c.requires.fact _ c.arity_of-ids.ensures.answer c.if-ids-eq1.false c.if-ids-eq2.false
+id_at-c-requires-clause-within c =
+    three_within c.requires.fact _ c.arity_of-ids.ensures.answer c.if-ids-eq1.false c.if-ids-eq2.false
 
 pub word_of-requires-2 : goal.word_of-requires-2
 word_of-requires-2 c =
@@ -76,6 +81,7 @@ word_of-requires-2 c =
 pub returns : goal.returns
 returns c =
     record {
-      answer = c.word_of-2.ensures.answer ∙ word_three c.requires.fact _ c.arity_of-ids.ensures.answer _ _ _ c.id_at-a.ensures.answer
+      answer = c.word_of-2.ensures.answer
+          ∙ word_three c.requires.fact _ c.arity_of-ids.ensures.answer _ _ _ c.id_at-a.ensures.answer
           c.id_at-b.ensures.answer c.id_at-c.ensures.answer c.if-ids-eq1.false c.if-ids-eq2.false;
     }

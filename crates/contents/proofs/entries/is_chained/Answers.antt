@@ -16,7 +16,14 @@ overflow_add-k c = omega (arith, c.loop-done.invariant.within, c.requires.form.f
 
 pub is_entry-right-requires : goal.is_entry-right-requires
 is_entry-right-requires c =
-    record { entry = record { form = c.requires.form; some = omega arith; most = omega (arith, c.loop-done-test.true); within = c.requires.within } }
+    record {
+      entry = record {
+        form = c.requires.form;
+        some = omega arith;
+        most = omega (arith, c.loop-done-test.true);
+        within = c.requires.within;
+      };
+    }
 
 pub returns-then-not-right : goal.returns-then-not-right
 returns-then-not-right c =
@@ -27,7 +34,14 @@ returns-then-not-right c =
 
 pub count_at-count-requires : goal.count_at-count-requires
 count_at-count-requires c =
-    record { entry = record { form = c.requires.form; some = omega arith; most = omega (arith, c.loop-done-test.true); within = c.requires.within } }
+    record {
+      entry = record {
+        form = c.requires.form;
+        some = omega arith;
+        most = omega (arith, c.loop-done-test.true);
+        within = c.requires.within;
+      };
+    }
 
 pub overflow_mul-start : goal.overflow_mul-start
 overflow_mul-start c =

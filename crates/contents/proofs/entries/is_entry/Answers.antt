@@ -43,8 +43,10 @@ pub returns : goal.returns
 returns c =
     record {
       answer = record {
-        kind = sym (ap (λ i. get_or c.args.image.now i 0) c.entry_at-at.ensures.answer) ∙ (sym c.byte_at-kind.ensures.answer ∙ c.if-kind-k.false);
-        size = sym (ap (λ i. get_or c.args.image.now (i + 1) 0) c.entry_at-at.ensures.answer) ∙ (sym c.byte_at-given.ensures.answer
+        kind = sym (ap (λ i. get_or c.args.image.now i 0) c.entry_at-at.ensures.answer)
+            ∙ (sym c.byte_at-kind.ensures.answer ∙ c.if-kind-k.false);
+        size = sym (ap (λ i. get_or c.args.image.now (i + 1) 0) c.entry_at-at.ensures.answer)
+            ∙ (sym c.byte_at-given.ensures.answer
             ∙ (c.if-given-size.false ∙ c.fact_size-size.ensures.answer));
         start_is = sym c.start_at-first.ensures.answer ∙ c.if-first-start.false;
       };
