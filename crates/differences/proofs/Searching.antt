@@ -1,13 +1,11 @@
 -- The search for the next word that the others lack: its invariant, with a law for each step. Assumes nothing.
-use Prim.Native.Nat.{ℕ, suc, ◌+◌, ◌≤◌, ◌<◌}
+use Prim.Native.Nat.{ℕ, ◌+◌, ◌≤◌, ◌<◌}
 use mathlib.Core.Path.{◌≡◌, refl, sym, subst, ap, ◌∙◌}
 use mathlib.Core.List.{List}
-use native.Mathlib.Omega.{arith}
 use native.Mathlib.Numerals.{add-one}
 use lib.ListN.{length, get_or, drop}
 use Rattle.rdfs.specs.Register.{newcomers}
 use Rattle.differences.specs.Besides.{Apart, NextBeside}
-use Rattle.differences.specs.declared.besides.Next.{Next}
 use Rattle.differences.proofs.Newcomers.{left_within, left_end, left_found, left_same, left_past}
 
 -- No word up to the place `at` is one that the others lack, and none of those passed is sought any more.

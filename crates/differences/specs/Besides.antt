@@ -1,5 +1,5 @@
 -- The words of one ascending list that another lacks, found one after the other.
-use Rattle.std.specs.Prelude.{ℕ, suc, ◌≤◌, ◌<◌, ◌≡◌, List, ◌∷◌, T, length, get_or, drop}
+use Rattle.std.specs.Prelude.{ℕ, suc, ◌<◌, ◌≡◌, List, ◌∷◌, T, length, get_or, drop}
 use Rattle.rdfs.specs.Numbers.{product}
 use Rattle.rdfs.specs.Lists.{Ascending}
 use Rattle.rdfs.specs.Words.{laid_out, filled}

@@ -17,4 +17,11 @@ overflow_add-result c = omega (arith, c.decimal_length.ensures.answer, count_few
 
 pub returns : goal.returns
 returns c =
-    record { answer = omega (arith, c.decimal_length.ensures.answer, number_length c.args.n c.if-n-eq-RESOURCE.false c.if-n-eq-MARK.false) }
+    record {
+      answer = omega (
+        arith,
+        c.decimal_length.ensures.answer,
+        number_length c.args.n c.if-n-eq-RESOURCE.false
+            c.if-n-eq-MARK.false,
+      );
+    }

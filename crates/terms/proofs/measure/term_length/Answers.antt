@@ -17,4 +17,12 @@ returns-in-Id c =
 
 pub returns-in-Literal : goal.returns-in-Literal
 returns-in-Literal c =
-    record { answer = omega (arith, c.decimal_length.ensures.answer, literal_length c.in-Literal.n, ap (λ t. length (spelt t)) c.in-Literal.is) }
+    record {
+      answer = omega (
+        arith,
+        c.decimal_length.ensures.answer,
+        literal_length c.in-Literal.n,
+        ap (λ t. length (spelt t))
+            c.in-Literal.is,
+      );
+    }

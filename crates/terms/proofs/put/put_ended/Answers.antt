@@ -13,4 +13,6 @@ put_piece-requires c =
 
 pub returns : goal.returns
 returns c =
-    record { bytes = puts_behind (spelt c.args.term) (bytes " ") c.requires.room c.put_term-last.ensures.bytes c.put_piece.ensures.bytes }
+    record {
+      bytes = puts_behind (spelt c.args.term) (bytes " ") c.requires.room c.put_term-last.ensures.bytes c.put_piece.ensures.bytes;
+    }

@@ -22,8 +22,13 @@ returns-then-n-eq-MARK c =
 
 pub put_number-requires : goal.put_number-requires
 put_number-requires c =
-    record { room = room_same c.args.output.now c.args.at (id_number c.args.n c.if-n-eq-RESOURCE.false c.if-n-eq-MARK.false) c.requires.room }
+    record {
+      room = room_same c.args.output.now c.args.at (id_number c.args.n c.if-n-eq-RESOURCE.false c.if-n-eq-MARK.false)
+          c.requires.room;
+    }
 
 pub returns : goal.returns
 returns c =
-    record { bytes = puts_same (sym (id_number c.args.n c.if-n-eq-RESOURCE.false c.if-n-eq-MARK.false)) c.put_number.ensures.bytes }
+    record {
+      bytes = puts_same (sym (id_number c.args.n c.if-n-eq-RESOURCE.false c.if-n-eq-MARK.false)) c.put_number.ensures.bytes;
+    }

@@ -23,7 +23,8 @@ pub put_piece-requires : goal.put_piece-requires
 put_piece-requires c =
     record {
       room = let text = decimal c.args.n in
-          room_behind text c.args.after.now (room_behind c.args.before.now (text ++ c.args.after.now) c.requires.room c.put_piece-digits.ensures.bytes)
+          room_behind text c.args.after.now
+          (room_behind c.args.before.now (text ++ c.args.after.now) c.requires.room c.put_piece-digits.ensures.bytes)
           c.put_decimal-last.ensures.bytes;
     }
 
@@ -32,6 +33,7 @@ returns c =
     record {
       bytes = let text = decimal c.args.n in
           puts_behind c.args.before.now (text ++ c.args.after.now) c.requires.room c.put_piece-digits.ensures.bytes
-          (puts_behind text c.args.after.now (room_behind c.args.before.now (text ++ c.args.after.now) c.requires.room c.put_piece-digits.ensures.bytes) c.put_decimal-last.ensures.bytes
+          (puts_behind text c.args.after.now (room_behind c.args.before.now (text ++ c.args.after.now) c.requires.room
+          c.put_piece-digits.ensures.bytes) c.put_decimal-last.ensures.bytes
           c.put_piece.ensures.bytes);
     }

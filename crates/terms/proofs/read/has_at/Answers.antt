@@ -16,8 +16,10 @@ pub loop-done-preserved : goal.loop-done-preserved
 loop-done-preserved c =
     let more : c.loop-done.done < length c.args.piece.now = omega arith in
     elim c.if-text-at-2.branch [
-      | then-text-at-2 w ↦ compared_other c.args.text.now c.args.at c.args.piece.now c.loop-done.invariant more w.if-text-at-2.true w.same-is
-      | else-text-at-2 w ↦ compared_like c.args.text.now c.args.at c.args.piece.now c.loop-done.invariant more w.if-text-at-2.false w.same-is
+      | then-text-at-2 w ↦ compared_other c.args.text.now c.args.at c.args.piece.now c.loop-done.invariant more
+          w.if-text-at-2.true w.same-is
+      | else-text-at-2 w ↦ compared_like c.args.text.now c.args.at c.args.piece.now c.loop-done.invariant more
+          w.if-text-at-2.false w.same-is
     ]
 
 pub returns : goal.returns

@@ -17,7 +17,10 @@ returns-then-is_type c =
 
 pub returns-then-is_property : goal.returns-then-is_property
 returns-then-is_property c =
-    record { answer = read_tested rdf_front (bytes "Property>") _ Property tt refl c.has_at-is_property.ensures.answer c.if-is_property.true }
+    record {
+      answer = read_tested rdf_front (bytes "Property>") _ Property tt refl c.has_at-is_property.ensures.answer
+          c.if-is_property.true;
+    }
 
 pub returns : goal.returns
 returns c =

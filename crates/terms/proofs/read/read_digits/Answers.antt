@@ -4,10 +4,12 @@ use Rattle.terms.proofs.DigitsReading.{digit_within, digits_none, number_first, 
 use Rattle.terms.proofs.read.read_digits.Goals as goal
 
 pub returns-then-value-eq0-clause-answer : goal.returns-then-value-eq0-clause-answer
-returns-then-value-eq0-clause-answer c = digits_none c.args.text.now c.args.at (inl (omega (arith, c.digit_at-value.ensures.answer)))
+returns-then-value-eq0-clause-answer c = digits_none c.args.text.now c.args.at
+    (inl (omega (arith, c.digit_at-value.ensures.answer)))
 
 pub returns-then-value-gt9-clause-answer : goal.returns-then-value-gt9-clause-answer
-returns-then-value-gt9-clause-answer c = digits_none c.args.text.now c.args.at (inr (omega (arith, c.digit_at-value.ensures.answer)))
+returns-then-value-gt9-clause-answer c = digits_none c.args.text.now c.args.at
+    (inr (omega (arith, c.digit_at-value.ensures.answer)))
 
 pub overflow_add-next : goal.overflow_add-next
 overflow_add-next c =
@@ -19,7 +21,8 @@ loop-value-init c =
     (omega arith)
 
 pub returns-then-digit-gt9-clause-answer : goal.returns-then-digit-gt9-clause-answer
-returns-then-digit-gt9-clause-answer c = number_ends c.loop-value.invariant c.digit_at-digit.result c.digit_at-digit.ensures.answer (omega arith) (omega arith)
+returns-then-digit-gt9-clause-answer c = number_ends c.loop-value.invariant c.digit_at-digit.result
+    c.digit_at-digit.ensures.answer (omega arith) (omega arith)
 
 pub returns-then-digit-gt9-clause-within : goal.returns-then-digit-gt9-clause-within
 returns-then-digit-gt9-clause-within c = c.loop-value.invariant.within

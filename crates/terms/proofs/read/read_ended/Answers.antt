@@ -11,12 +11,14 @@ overflow_add-end c =
     omega (arith, within, c.term_length.ensures.answer)
 
 pub returns-then-text-end-eq32-clause-answer : goal.returns-then-text-end-eq32-clause-answer
-returns-then-text-end-eq32-clause-answer c = ended_found c.args.text.now c.args.at c.requires.place c.term_at-term.result c.term_at-term.ensures.answer
+returns-then-text-end-eq32-clause-answer c = ended_found c.args.text.now c.args.at c.requires.place c.term_at-term.result
+    c.term_at-term.ensures.answer
     (c.args.at + c.term_length.result) (ap (λ n. c.args.at + n) c.term_length.ensures.answer) (omega arith)
     c.if-text-end-eq32.true
 
 pub returns-else-text-end-eq32-clause-answer : goal.returns-else-text-end-eq32-clause-answer
-returns-else-text-end-eq32-clause-answer c = ended_none c.args.text.now c.args.at c.requires.place c.term_at-term.result c.term_at-term.ensures.answer
+returns-else-text-end-eq32-clause-answer c = ended_none c.args.text.now c.args.at c.requires.place c.term_at-term.result
+    c.term_at-term.ensures.answer
     (c.args.at + c.term_length.result) (ap (λ n. c.args.at + n) c.term_length.ensures.answer)
     (λ more byte. c.if-text-end-eq32.false byte)
 
@@ -24,7 +26,8 @@ pub returns-else-text-end-eq32-clause-within : goal.returns-else-text-end-eq32-c
 returns-else-text-end-eq32-clause-within c = c.requires.place
 
 pub returns-else-end-text-clause-answer : goal.returns-else-end-text-clause-answer
-returns-else-end-text-clause-answer c = ended_none c.args.text.now c.args.at c.requires.place c.term_at-term.result c.term_at-term.ensures.answer
+returns-else-end-text-clause-answer c = ended_none c.args.text.now c.args.at c.requires.place c.term_at-term.result
+    c.term_at-term.ensures.answer
     (c.args.at + c.term_length.result) (ap (λ n. c.args.at + n) c.term_length.ensures.answer)
     (λ more byte. omega (arith, more, c.if-end-text.false))
 

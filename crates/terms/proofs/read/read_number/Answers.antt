@@ -13,7 +13,8 @@ returns-then-number-lt2 c =
 pub returns-then-text-next : goal.returns-then-text-next
 returns-then-text-next c =
     record {
-      answer = number_found c.args.text.now c.args.at c.args.end c.read_digits-number.result.value c.read_digits-number.result.next
+      answer = number_found c.args.text.now c.args.at c.args.end c.read_digits-number.result.value
+          c.read_digits-number.result.next
           c.requires.end c.read_digits-number.ensures.answer (omega arith) (omega arith) c.if-text-next.true;
     }
 

@@ -16,15 +16,23 @@ urn_at-requires c =
 
 pub returns-then-urn : goal.returns-then-urn
 returns-then-urn c =
-    record { answer = behind_read c.args.text.now c.args.at urn_front c.has_at-urn.ensures.answer c.if-urn.true [] _ c.urn_at.ensures.answer }
+    record {
+      answer = behind_read c.args.text.now c.args.at urn_front c.has_at-urn.ensures.answer c.if-urn.true [] _
+          c.urn_at.ensures.answer;
+    }
 
 pub rdfs_at-requires : goal.rdfs_at-requires
 rdfs_at-requires c =
-    record { place = behind_within c.args.text.now c.args.at rdfs_front c.has_at-rdfs.ensures.answer c.if-rdfs.true (omega arith) }
+    record {
+      place = behind_within c.args.text.now c.args.at rdfs_front c.has_at-rdfs.ensures.answer c.if-rdfs.true (omega arith);
+    }
 
 pub returns-then-rdfs : goal.returns-then-rdfs
 returns-then-rdfs c =
-    record { answer = behind_read c.args.text.now c.args.at rdfs_front c.has_at-rdfs.ensures.answer c.if-rdfs.true [] _ c.rdfs_at.ensures.answer }
+    record {
+      answer = behind_read c.args.text.now c.args.at rdfs_front c.has_at-rdfs.ensures.answer c.if-rdfs.true [] _
+          c.rdfs_at.ensures.answer;
+    }
 
 pub rdf_at-requires : goal.rdf_at-requires
 rdf_at-requires c =
@@ -32,11 +40,17 @@ rdf_at-requires c =
 
 pub returns-then-rdf : goal.returns-then-rdf
 returns-then-rdf c =
-    record { answer = behind_read c.args.text.now c.args.at rdf_front c.has_at-rdf.ensures.answer c.if-rdf.true [] _ c.rdf_at.ensures.answer }
+    record {
+      answer = behind_read c.args.text.now c.args.at rdf_front c.has_at-rdf.ensures.answer c.if-rdf.true [] _
+          c.rdf_at.ensures.answer;
+    }
 
 pub literal_at-requires : goal.literal_at-requires
 literal_at-requires c =
-    record { place = behind_within c.args.text.now c.args.at literal_front c.has_at-literal.ensures.answer c.if-literal.true (omega arith) }
+    record {
+      place = behind_within c.args.text.now c.args.at literal_front c.has_at-literal.ensures.answer c.if-literal.true
+          (omega arith);
+    }
 
 pub returns-then-literal : goal.returns-then-literal
 returns-then-literal c =

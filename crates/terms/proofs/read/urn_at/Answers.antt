@@ -25,7 +25,10 @@ returns-then-id c =
 
 pub returns-then-is_exclusive : goal.returns-then-is_exclusive
 returns-then-is_exclusive c =
-    record { answer = read_tested urn_front (bytes "mark:excl>") _ Exclusive tt refl c.has_at-is_exclusive.ensures.answer c.if-is_exclusive.true }
+    record {
+      answer = read_tested urn_front (bytes "mark:excl>") _ Exclusive tt refl c.has_at-is_exclusive.ensures.answer
+          c.if-is_exclusive.true;
+    }
 
 pub returns : goal.returns
 returns c =

@@ -13,4 +13,7 @@ returns-then-k-eq-LITERAL c =
 
 pub returns : goal.returns
 returns c =
-    record { answer = sym (line_there c.args.word c.requires.fact (λ e. c.if-k-eq-INDIVIDUAL.false (c.kind_of-k.ensures.answer ∙ e)) (λ e. c.if-k-eq-LITERAL.false (c.kind_of-k.ensures.answer ∙ e))) }
+    record {
+      answer = sym (line_there c.args.word c.requires.fact (λ e. c.if-k-eq-INDIVIDUAL.false (c.kind_of-k.ensures.answer ∙ e))
+          (λ e. c.if-k-eq-LITERAL.false (c.kind_of-k.ensures.answer ∙ e)));
+    }

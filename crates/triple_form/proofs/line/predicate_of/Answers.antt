@@ -33,6 +33,7 @@ pub returns-in_default : goal.returns-in_default
 returns-in_default c =
     let is = c.kind_of-k.ensures.answer in
     record {
-      answer = sym (word_typed c.args.word c.requires.fact c.requires.line (λ e. omega (arith, is ∙ e)) (λ e. omega (arith, is ∙ e))
+      answer = sym (word_typed c.args.word c.requires.fact c.requires.line (λ e. omega (arith, is ∙ e))
+          (λ e. omega (arith, is ∙ e))
           (λ e. omega (arith, is ∙ e)) (λ e. omega (arith, is ∙ e)) (λ e. omega (arith, is ∙ e)));
     }
