@@ -1,5 +1,5 @@
 //! Links the archive of the proved library: from the folder in VIMELOSA_ARCHIVE_DIR, or from
-//! ../target/staticlib, where `rt staticlib vimelosa` puts it.
+//! ../target/staticlib, where `.ci/build archive` puts it.
 
 use std::path::{Path, PathBuf};
 use std::{env, process};
@@ -10,7 +10,7 @@ fn main() {
     if !archive.is_file() {
         eprintln!("There is no archive {}.", archive.display());
         eprintln!(
-            "Run `rt staticlib vimelosa` in the repository, which proves the library and takes minutes,"
+            "Run `.ci/build archive` in the repository, which proves the library and takes minutes,"
         );
         eprintln!("or set VIMELOSA_ARCHIVE_DIR to the absolute path of the folder that has libvimelosa.a.");
         process::exit(1);

@@ -9,6 +9,7 @@ ghost use Rattle.rdfs.specs.Numbers.{product};
 ghost use Rattle.report.specs.Turns.{Sized, Finishes};
 
 use report::{put_count, run_input};
+use std::io::Input;
 use streams::write_output;
 use table::{MOST, Word};
 use table_calls::fresh;
@@ -18,17 +19,22 @@ const CHUNK: usize = 16000;
 
 // Runs the whole input on a fresh table and prints the count. The answer is the length of the count's line,
 // which stands at the start of out; 0 if a read or a write failed.
-fn run_program(table: &mut [Word], bytes: &mut [u8], out: &mut [u8]) -> usize
+fn run_program(
+    rt: &(impl Input + Print + Eprint),
+    table: &mut [Word],
+    bytes: &mut [u8],
+    out: &mut [u8],
+) -> usize
     requires most { length table.old ≡ product.most }
     requires sized { Sized (length bytes.old) (length out.old) }
     ensures printed { Finishes result (length bytes.old) table.new
         out.new }
 {
     fresh(table);
-    let all = run_input(table, bytes, out);
+    let all = run_input(rt, table, bytes, out);
     if all {
         let length = put_count(table, out);
-        let written = write_output(b"apply_tickets", &out[..length]);
+        let written = write_output(rt, "apply_tickets", &out[..length]);
         if written {
             return length;
         }
@@ -36,10 +42,10 @@ fn run_program(table: &mut [Word], bytes: &mut [u8], out: &mut [u8]) -> usize
     0
 }
 
-fn main() {
+fn main(rt: HostRuntime) {
     let zero: Word = 0;
     let mut table = [zero; MOST];
     let mut bytes = [0u8; CHUNK];
     let mut out = io::large_buffer();
-    run_program(&mut table, &mut bytes, &mut out);
+    run_program(&rt, &mut table, &mut bytes, &mut out);
 }

@@ -6,7 +6,7 @@ ghost use Rattle.std.specs.Prelude.{◌≤◌};
 
 use consistency::check;
 use image::{LONGEST, read};
-use libc::{STDIN_FILENO, STDOUT_FILENO};
+use streams::{STDIN, STDOUT};
 use table::{CLASS, MOST, RESOURCE, Word, word_of};
 
 // How often the table is checked.
@@ -38,7 +38,7 @@ fn count_accepted(table: &mut [Word; MOST]) -> u64 {
 
 fn main() {
     let mut input = [0u8; LONGEST + 1];
-    let length = io::read_full(STDIN_FILENO, &mut input);
+    let length = io::read_full(STDIN, &mut input);
     if LONGEST < length {
         return;
     }
@@ -49,6 +49,6 @@ fn main() {
         return;
     }
     let accepted = count_accepted(&mut table);
-    io::print_decimal(STDOUT_FILENO, accepted);
-    io::write_all(STDOUT_FILENO, b"\n");
+    io::print_decimal(STDOUT, accepted);
+    io::write_all(STDOUT, b"\n");
 }

@@ -16,7 +16,7 @@ use Rattle.rdfs.proofs.Tickets.FirstTrue.{passed_link}
 use Rattle.table.proofs.TestAnswers.{is_false}
 use Rattle.table.proofs.Zeros.{drop_zeros}
 use Rattle.contents.specs.ImageForm.{image_form}
-use Rattle.contents.specs.Reading.{words_of, malformed}
+use Rattle.contents.specs.Reading.{malformed}
 use Rattle.reading.specs.Fitting.{Fitting}
 use Rattle.reading.specs.ReadPromise.{image_words, image_refusal, read_answer, read_words, ReadPromise}
 use Rattle.contents.proofs.InBytes.{AllBytes}

@@ -3,7 +3,7 @@
 //
 // The functions serve the program. `run_input` requires a consistent table, a chunk of whole tickets and room
 // for their lines, `put_count` a consistent table and room for a line. Of reading and writing the crate
-// assumes the kit's contracts, which say how many bytes a call moves.
+// assumes std's contracts, which say how many bytes a call moves.
 #![tactic(auto)]
 
 mod lines;

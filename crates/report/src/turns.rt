@@ -3,6 +3,7 @@ ghost use Rattle.std.specs.Prelude.{◌≤◌, length};
 ghost use Rattle.report.specs.Turns.{Lent, Shows, Ran};
 
 use crate::lines::put_lines;
+use std::io::Input;
 use streams::{Filled, read_input, write_output};
 use table::Word;
 
@@ -18,14 +19,20 @@ pub enum Turned {
 }
 
 // Runs the tickets of the first n bytes of a chunk and writes their lines.
-fn run_tickets(table: &mut [Word], bytes: &[u8], count: usize, out: &mut [u8]) -> Turned
+fn run_tickets(
+    rt: &(impl Print + Eprint),
+    table: &mut [Word],
+    bytes: &[u8],
+    count: usize,
+    out: &mut [u8],
+) -> Turned
     requires lent { Lent table.old bytes.now out.old }
     requires bytes { count ≤ length bytes.now }
     ensures turn { Shows result table.old bytes.now table.new
         out.new }
 {
     let length = put_lines(table, &bytes[..count], out);
-    let written = write_output(b"apply_tickets", &out[..length]);
+    let written = write_output(rt, "apply_tickets", &out[..length]);
     if written {
         if count == bytes.len() {
             return Turned::More;
@@ -36,27 +43,37 @@ fn run_tickets(table: &mut [Word], bytes: &[u8], count: usize, out: &mut [u8]) -
 }
 
 // Reads a chunk, runs its tickets and writes their lines. If the read fails, none of its tickets is run.
-fn run_chunk(table: &mut [Word], bytes: &mut [u8], out: &mut [u8]) -> Turned
+fn run_chunk(
+    rt: &(impl Input + Print + Eprint),
+    table: &mut [Word],
+    bytes: &mut [u8],
+    out: &mut [u8],
+) -> Turned
     requires lent { Lent table.old bytes.old out.old }
     ensures turn { Shows result table.old bytes.new table.new
         out.new }
 {
-    let filled = read_input(b"apply_tickets", bytes);
+    let filled = read_input(rt, "apply_tickets", bytes);
     let Filled::Read(count) = filled else {
         return Turned::Failed;
     };
-    run_tickets(table, bytes, count, out)
+    run_tickets(rt, table, bytes, count, out)
 }
 
 // Runs the whole input, turn by turn. Whether it came to the end of the input. A loop has to end, and nothing
 // says that the input does: it counts down from a number that no run uses up.
-pub fn run_input(table: &mut [Word], bytes: &mut [u8], out: &mut [u8]) -> bool
+pub fn run_input(
+    rt: &(impl Input + Print + Eprint),
+    table: &mut [Word],
+    bytes: &mut [u8],
+    out: &mut [u8],
+) -> bool
     requires lent { Lent table.old bytes.old out.old }
     ensures turns { Ran result (length bytes.old) table.old table.new }
 {
     let mut turns = u64::MAX;
     while turns > 0 {
-        let turned = run_chunk(table, bytes, out);
+        let turned = run_chunk(rt, table, bytes, out);
         match turned {
             Turned::More => {
                 turns -= 1;

@@ -49,8 +49,8 @@ mod previews;
 mod rule;
 mod tickets;
 
-use libc::STDIN_FILENO;
 use line::run_lines;
+use streams::STDIN;
 use table::{MOST, Word};
 
 // The words that can be lent, one more than a table may have.
@@ -59,7 +59,7 @@ const WORDS: usize = MOST + 1;
 // Of standard input the first 65,536 bytes count.
 fn main() {
     let mut text = io::large_buffer();
-    let length = io::read_full(STDIN_FILENO, &mut text);
+    let length = io::read_full(STDIN, &mut text);
     let zero: Word = 0;
     let mut words = [zero; WORDS];
     let mut kept = [zero; WORDS];

@@ -1,7 +1,7 @@
 // A rule printed by its number.
 use consistency::Rule;
-use libc::STDOUT_FILENO;
 use script::{print_number, print_text};
+use streams::STDOUT;
 
 // The number of a rule in Fig. 3; 27 more than its own for H1 to H4, 31 more for E1 and E2.
 fn number_of(rule: Rule) -> usize {
@@ -48,9 +48,9 @@ pub fn print_rule(rule: Rule) {
     }
     if number <= 31 {
         print_text(b" H");
-        io::print_decimal(STDOUT_FILENO, (number - 27) as u64);
+        io::print_decimal(STDOUT, (number - 27) as u64);
         return;
     }
     print_text(b" E");
-    io::print_decimal(STDOUT_FILENO, (number - 31) as u64);
+    io::print_decimal(STDOUT, (number - 31) as u64);
 }

@@ -1,17 +1,17 @@
 // Parts of lines printed: numbers, bytes, words.
 ghost use Rattle.std.specs.Prelude.{◌≤◌, length};
 
-use libc::STDOUT_FILENO;
+use streams::STDOUT;
 use table::Word;
 
 pub fn print_text(text: &[u8]) {
-    io::write_all(STDOUT_FILENO, text);
+    io::write_all(STDOUT, text);
 }
 
 // A number, after a blank.
 pub fn print_number(number: usize) {
     print_text(b" ");
-    io::print_decimal(STDOUT_FILENO, number as u64);
+    io::print_decimal(STDOUT, number as u64);
 }
 
 pub fn print_answer(answer: u8) {
@@ -30,7 +30,7 @@ pub fn print_test(test: bool) {
 // A number in hexadecimal, of at least so many digits, after a blank.
 fn print_digits(number: u64, digits: usize) {
     print_text(b" ");
-    io::print_hex(STDOUT_FILENO, number, digits);
+    io::print_hex(STDOUT, number, digits);
 }
 
 fn print_byte(byte: u8) {

@@ -14,7 +14,7 @@ Ends (Read n) size = n < size
 Ends Failed size = Unit {0}
 
 -- The input, from where the reading began, if n bytes of it stand at the buffer's start: they are its first,
--- and all of it if they do not fill the buffer. `libc::read` puts the input's bytes there, but no contract
+-- and all of it if they do not fill the buffer. std's `Read::read` puts the input's bytes there, but no contract
 -- says so: promises of the programs speak of every input of which this holds.
 pub record Begins (n : ℕ) (buffer input : List ℕ) : Type 0 where
   pub first : take n input ≡ take n buffer

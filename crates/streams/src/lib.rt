@@ -1,15 +1,20 @@
 // The standard streams of the programs: input read into a lent buffer, text written, and what is said
 // on standard error where one of them fails.
 //
-// No function has a `requires`. The crate assumes the kit's contracts of `libc::read` and `libc::write`,
-// which say how many bytes a call moves; which bytes they are, and from or to which stream, no contract can
-// say.
+// No function has a `requires`. The crate assumes the contracts of std's `Read` and `Print`, which say how many
+// bytes a call moves; which bytes they are, and from or to which stream, no contract can say.
 #![tactic(auto)]
 
 ghost use Rattle.streams.specs.Input.{Within, Ends};
 ghost use Rattle.std.specs.Prelude.{◌≡◌, length};
 
-use libc::{STDERR_FILENO, STDIN_FILENO, STDOUT_FILENO};
+use std::io::{Input, Read};
+
+// The descriptors of standard input and standard output, for the programs that read and print by the kit's
+// `io`.
+pub const STDIN: i32 = 0;
+
+pub const STDOUT: i32 = 1;
 
 // The most bytes of a text that a program reads.
 pub const TEXT: usize = 1048576;
@@ -33,18 +38,16 @@ pub enum Filled {
 
 // Reads until the buffer is full, the input ends or a read fails. A read that a signal interrupts, or that
 // finds nothing yet on a descriptor that does not wait, has failed: it is not the end of the input.
-fn fill(fd: i32, buffer: &mut [u8]) -> Filled
+fn fill<R: Read>(reader: &mut R, buffer: &mut [u8]) -> Filled
     ensures bound { Within result (length buffer.new) }
 {
     let mut done = 0;
     while done < buffer.len() {
-        let got = libc::read(fd, &mut buffer[done..]);
-        if got == 0 {
-            return Filled::Read(done);
-        }
-        let more = io::count(got, &buffer[done..]);
-        if more == 0 {
+        let Ok(more) = reader.read(&mut buffer[done..]) else {
             return Filled::Failed;
+        };
+        if more == 0 {
+            return Filled::Read(done);
         }
         done += more;
     }
@@ -53,29 +56,28 @@ fn fill(fd: i32, buffer: &mut [u8]) -> Filled
 
 // Reads standard input into a buffer. If a read fails, a line on standard error says so, after the program's
 // name.
-pub fn read_input(program: &[u8], buffer: &mut [u8]) -> Filled
+pub fn read_input(rt: &(impl Input + Eprint), program: &str, buffer: &mut [u8]) -> Filled
     ensures bound { Within result (length buffer.new) }
 {
-    let filled = fill(STDIN_FILENO, buffer);
+    let mut reader = rt.reader();
+    let filled = fill(&mut reader, buffer);
     if let Filled::Failed = filled {
-        io::write_all(STDERR_FILENO, program);
-        io::write_all(STDERR_FILENO, b": standard input could not be read\n");
+        let _ = eprintln!(rt; "{program}: standard input could not be read");
     }
     filled
 }
 
 // Reads all of standard input into a buffer that is longer than it. If it is not, or a read fails, a line on
 // standard error says so, after the program's name.
-pub fn read_whole(program: &[u8], buffer: &mut [u8]) -> Filled
+pub fn read_whole(rt: &(impl Input + Eprint), program: &str, buffer: &mut [u8]) -> Filled
     ensures whole { Ends result (length buffer.new) }
 {
-    let filled = read_input(program, buffer);
+    let filled = read_input(rt, program, buffer);
     let Filled::Read(count) = filled else {
         return filled;
     };
     if count == buffer.len() {
-        io::write_all(STDERR_FILENO, program);
-        io::write_all(STDERR_FILENO, b": the input is too long\n");
+        let _ = eprintln!(rt; "{program}: the input is too long");
         return Filled::Failed;
     }
     filled
@@ -83,11 +85,10 @@ pub fn read_whole(program: &[u8], buffer: &mut [u8]) -> Filled
 
 // Writes all of a text to standard output. If a write fails the answer is false, part of the text may have
 // been written, and a line on standard error says so, after the program's name.
-pub fn write_output(program: &[u8], text: &[u8]) -> bool {
-    if io::write_all(STDOUT_FILENO, text) {
+pub fn write_output(rt: &(impl Print + Eprint), program: &str, text: &[u8]) -> bool {
+    if rt.write_all(text).is_ok() {
         return true;
     }
-    io::write_all(STDERR_FILENO, program);
-    io::write_all(STDERR_FILENO, b": standard output could not be written\n");
+    let _ = eprintln!(rt; "{program}: standard output could not be written");
     false
 }

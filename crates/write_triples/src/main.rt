@@ -7,13 +7,13 @@ use exchange::{LONGEST_TEXT, put_text};
 use image::LONGEST;
 use streams::{Filled, read_input, write_output};
 
-fn main() {
+fn main(rt: HostRuntime) {
     let mut input = [0u8; LONGEST + 1];
-    let filled = read_input(b"write_triples", &mut input);
+    let filled = read_input(&rt, "write_triples", &mut input);
     let Filled::Read(count) = filled else {
         return;
     };
     let mut out = [0u8; LONGEST_TEXT];
     let length = put_text(&input[..count], &mut out);
-    write_output(b"write_triples", &out[..length]);
+    write_output(&rt, "write_triples", &out[..length]);
 }

@@ -1,0 +1,23 @@
+-- `reader::overfull_refusal`: 12 exactly if the words are not laid out. Assumes nothing.
+use native.Mathlib.Omega.{arith}
+use mathlib.Core.Path.{sym, ap, ◌∙◌}
+use mathlib.Core.Bool.{not}
+use Rattle.rdfs.specs.Refusals.{or_else}
+use Rattle.contents.proofs.Product.{right_malformed}
+use Rattle.reading.proofs.reader.overfull_refusal.Goals as goal
+
+pub returns-then-rising : goal.returns-then-rising
+returns-then-rising c =
+    record {
+      answer = sym (ap (λ m. or_else m 12 11) (right_malformed c.requires.contents.form c.args.image.now
+          (λ i. omega (arith, c.type_inv.image i)) c.requires.contents.right
+          ∙ ap not (sym c.is_rising-rising.ensures.answer ∙ c.if-rising.true)));
+    }
+
+pub returns : goal.returns
+returns c =
+    record {
+      answer = sym (ap (λ m. or_else m 12 11) (right_malformed c.requires.contents.form c.args.image.now
+          (λ i. omega (arith, c.type_inv.image i)) c.requires.contents.right
+          ∙ ap not (sym c.is_rising-rising.ensures.answer ∙ c.if-rising.false)));
+    }
