@@ -2,8 +2,8 @@
 // hexadecimal, numbers; bytes and words compared and copied.
 //
 // The functions serve the program. Those that answer a place or a length within what is lent promise it; the
-// others promise nothing. `find_byte` asks for a place within its text. Assumed are the functions of the kit's
-// `io`, for writing.
+// others promise nothing. `find_byte` asks for a place within its text. For writing the crate assumes the
+// contracts of the kit's `io`.
 #![tactic(auto)]
 
 mod compare;

@@ -9,8 +9,8 @@ use Rattle.text.specs.Digit.{digit_value}
 
 module _ (x : ℕ) where
   -- The four comparisons.
-  by_tests : {p q r s : Bool} → leb 48 x ≡ p → leb x 57 ≡ q → leb 97 x ≡ r → leb x 102 ≡ s → digit_value x ≡ cond (p && q) (x - 48)
-      (cond (r && s) (x - 87) 0)
+  by_tests : {p q r s : Bool} → leb 48 x ≡ p → leb x 57 ≡ q → leb 97 x ≡ r → leb x 102 ≡ s
+      → digit_value x ≡ cond (p && q) (x - 48) (cond (r && s) (x - 87) 0)
   by_tests {p} {q} {r} {s} a b c d =
       ap (λ e. cond (e && leb x 57) (x - 48) (cond (leb 97 x && leb x 102) (x - 87) 0)) a
       ∙ (ap (λ e. cond (p && e) (x - 48) (cond (leb 97 x && leb x 102) (x - 87) 0)) b

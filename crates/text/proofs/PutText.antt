@@ -13,8 +13,8 @@ use Rattle.text.specs.Text.{Number, Fits, Puts}
 
 digits_length : (k n : ℕ) → length (last_digits 10 k n) ≡ k
 digits_length zero n = refl
-digits_length (suc k) n = length-append (last_digits 10 k (n / 10)) (hex_digit_ascii (n % 10) ∷ []) ∙ (ap (λ m. m + 1) (digits_length k (n / 10))
-    ∙ add-one k)
+digits_length (suc k) n = length-append (last_digits 10 k (n / 10)) (hex_digit_ascii (n % 10) ∷ [])
+    ∙ (ap (λ m. m + 1) (digits_length k (n / 10)) ∙ add-one k)
 
 number_length : (k n x : ℕ) → length (last_digits 10 k n ++ (x ∷ [])) ≡ k + 1
 number_length k n x = length-append (last_digits 10 k n) (x ∷ []) ∙ ap (λ m. m + 1) (digits_length k n)
@@ -64,7 +64,8 @@ copied_more at i before new after h k q =
     ∙ (append_assoc (take at before) (take i new) (x ∷ []) ∙ ap (λ l. take at before ++ l) longer)))
 
 -- Digits and the byte after them.
-pub number_put : (at n k x : ℕ) (before new after : List ℕ) → at + k < length after → IsDigitCount 10 1 n k → take k new ≡ last_digits 10 k n
+pub number_put : (at n k x : ℕ) (before new after : List ℕ) → at + k < length after → IsDigitCount 10 1 n k
+    → take k new ≡ last_digits 10 k n
     → Copied at k before new after
     → Puts (Number n x) at (at + k + 1) before (set after (at + k) x)
 number_put at n k x before new after h f e q = record {

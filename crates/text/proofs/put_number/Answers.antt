@@ -19,21 +19,27 @@ loop-place-init c = (
 
 pub loop-place-preserved : goal.loop-place-preserved
 loop-place-preserved c =
-    let in-digits : c.loop-place.place < length c.decimal-count.new.out = omega (arith, c.loop-place-test.true, c.decimal-count.ensures.in_bounds.0) in
-    let in-out : c.args.at + c.loop-place.place < length c.loop-place.out = omega (arith, c.loop-place-test.true, c.loop-place.invariant.2) in (
+    let digits = c.decimal-count.new.out in
+    let in-digits : c.loop-place.place < length digits =
+    omega (arith, c.loop-place-test.true, c.decimal-count.ensures.in_bounds.0) in
+    let in-out : c.args.at + c.loop-place.place < length c.loop-place.out =
+    omega (arith, c.loop-place-test.true, c.loop-place.invariant.2) in (
       search rules,
       c.loop-place.invariant.1,
       search rules,
       search rules,
       copied_more c.args.at c.loop-place.place c.args.out.now
-          c.decimal-count.new.out c.loop-place.out in-out in-digits c.loop-place.invariant.4,
+          digits c.loop-place.out in-out in-digits c.loop-place.invariant.4,
     )
 
 pub returns : goal.returns
 returns c =
     record {
-      text = let whole : c.loop-place.place ≡ c.decimal-count.result = omega (arith, c.loop-place.invariant.0, c.loop-place-test.false) in
-          number_put c.args.at c.args.number c.decimal-count.result c.args.after c.args.out.now c.decimal-count.new.out c.loop-place.out
+      text = let digits = c.decimal-count.new.out in
+          let out = c.loop-place.out in
+          let whole : c.loop-place.place ≡ c.decimal-count.result =
+          omega (arith, c.loop-place.invariant.0, c.loop-place-test.false) in
+          number_put c.args.at c.args.number c.decimal-count.result c.args.after c.args.out.now digits out
           c.loop-place.invariant.2 c.decimal-count.ensures.len c.decimal-count.ensures.digits
-          (subst (λ i. Copied c.args.at i c.args.out.now c.decimal-count.new.out c.loop-place.out) whole c.loop-place.invariant.4);
+          (subst (λ i. Copied c.args.at i c.args.out.now digits out) whole c.loop-place.invariant.4);
     }
