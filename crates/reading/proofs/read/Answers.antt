@@ -29,7 +29,8 @@ returns-then-not-right c =
       promise = read_refused c.args.table.now c.args.image.now 12
           (read_malformed c.args.table.now c.args.image.now (sym c.is_bad_size-bad.ensures.answer ∙ c.if-bad.false)
           (wrong_read c.args.image.now c.form_of-form.ensures.answer c.has_contents-right.result
-          c.has_contents-right.ensures.answer (λ i. omega (arith, c.type_inv.image i)) (ap not c.if-not-right.true))) (omega arith);
+          c.has_contents-right.ensures.answer (λ i. omega (arith, c.type_inv.image i)) (ap not c.if-not-right.true)))
+          (omega arith);
     }
 
 pub count_words-count-requires : goal.count_words-count-requires
