@@ -24,7 +24,8 @@ second_first [] h = (refl, omega arith)
 second_first (f ∷ l) h = let b = fields product.top f (h f (here refl)) in (omega (arith, b.one, b.two, b.three), b.two)
 
 pub first_b_of : (t : List ℕ) (n k p : ℕ) → Counted t n
-    → (second_of (first_word (with_a (facts_of t) k p)) ≡ first_b (with_a (facts_of t) k p)) × Id (first_b (with_a (facts_of t) k p))
+    → (second_of (first_word (with_a (facts_of t) k p)) ≡ first_b (with_a (facts_of t) k p))
+    × Id (first_b (with_a (facts_of t) k p))
 first_b_of t n k p q =
     second_first (with_a (facts_of t) k p) (λ f m. laid_allowed product t q.laid f
     (in_filter (λ g. eqb (kind g) k && eqb (first g) p) (facts_of t) m).0)

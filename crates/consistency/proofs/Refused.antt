@@ -46,7 +46,8 @@ first_two true layout rest a e n = e
 first_two false true rest a e n = e
 first_two false false rest a e n = absurd (n e)
 
-past_two : (size layout : Bool) (rest : ℕ) → or_else size 1 (or_else layout 2 0) ≡ 0 → or_else size 1 (or_else layout 2 rest) ≡ rest
+past_two : (size layout : Bool) (rest : ℕ) → or_else size 1 (or_else layout 2 0) ≡ 0
+    → or_else size 1 (or_else layout 2 rest) ≡ rest
 past_two true layout rest e = absurd (omega arith)
 past_two false true rest e = absurd (omega arith)
 past_two false false rest e = refl
@@ -56,7 +57,8 @@ size_good true layout e t = omega arith
 size_good false layout e t = t
 
 -- A table refused with 3 is laid out, and not too long.
-third : (size layout rest : Bool) → 3 ≡ or_else size 1 (or_else layout 2 (or_else rest 3 0)) → or_else size 1 (or_else layout 2 0) ≡ 0
+third : (size layout rest : Bool) → 3 ≡ or_else size 1 (or_else layout 2 (or_else rest 3 0))
+    → or_else size 1 (or_else layout 2 0) ≡ 0
 third true layout rest e = absurd (omega arith)
 third false true rest e = absurd (omega arith)
 third false false rest e = refl
@@ -80,7 +82,8 @@ module _ (table : List ℕ) (a : ℕ) (e : a ≡ layout_refusal product table 0)
     ]
 
     by_rules : (b : Bool) → inconsistent product table ≡ b → or_else b 3 0 ≡ table_refusal product table 0
-    by_rules b q = sym (past_two (bad_size product table) (bad_layout product table) (or_else (inconsistent product table) 3 0) none
+    by_rules b q = sym (past_two (bad_size product table) (bad_layout product table)
+        (or_else (inconsistent product table) 3 0) none
         ∙ ap (λ i. or_else i 3 0) q)
 
     -- n rules are met before the first that is broken.

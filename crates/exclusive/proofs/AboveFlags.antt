@@ -152,5 +152,6 @@ last_exclusive {t} {n} {x} c h =
           ))
       | no l ↦ omega (arith, l)
     ] in
-    let within = kind_within (kind_of (get_or t (n - 1) 0)) (word_shaped (get_or t (n - 1) 0) (counted_fact c (n - 1) last)).some in
+    let within = kind_within (kind_of (get_or t (n - 1) 0))
+    (word_shaped (get_or t (n - 1) 0) (counted_fact c (n - 1) last)).some in
     (some, omega (arith, above, within))

@@ -98,7 +98,8 @@ module _ {t : List ℕ} {from i p : ℕ} {H : List ℕ} (h : Noted t from i p H)
   noted_miss n r = subst (Noted t from (i + 1) p) (sym r) (holders_as h (λ x y. placed_up (omega arith))
       (λ x y q. ⊎_elim (λ r. r) (λ r. absurd (n r.2)) (placed_split q)))
 
-  module _ {x y : ℕ} (l : from ≤ i) (e : third_of (get_or t i 0) ≡ p) (d : x ≡ first_of (get_or t i 0)) (f : y ≡ second_of (get_or t i 0))
+  module _ {x y : ℕ} (l : from ≤ i) (e : third_of (get_or t i 0) ≡ p) (d : x ≡ first_of (get_or t i 0))
+      (f : y ≡ second_of (get_or t i 0))
       (b : y < length H) where
     -- Its value has no other holder.
     pub noted_hit : {u : List ℕ} → (Other (get_or H y 0) x → ⊥) → u ≡ set H y x → Noted t from (i + 1) p u

@@ -101,7 +101,8 @@ placed_up h p = record {
 }
 
 module _ {t : List ℕ} {from i : ℕ} where
-  pub placed_last : {a b c : ℕ} → from ≤ i → first_of (get_or t i 0) ≡ a → second_of (get_or t i 0) ≡ b → third_of (get_or t i 0) ≡ c
+  pub placed_last : {a b c : ℕ} → from ≤ i → first_of (get_or t i 0) ≡ a → second_of (get_or t i 0) ≡ b
+      → third_of (get_or t i 0) ≡ c
       → Placed t from (i + 1) a b c
   placed_last h p q r =
       record { at = i; from_on = h; before = omega arith; first_is = p; second_is = q; third_is = r }

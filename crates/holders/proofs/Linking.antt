@@ -79,7 +79,8 @@ module _ {t links : List ℕ} {end i : ℕ} (L : Linking t links end i) where
   pub place_within : i < end → i < length links
   place_within h = omega (arith, L.linkable.places, linking_few h)
 
-  pub linking_more : i < end → Linking t (set (set links i (at links (latest_at (third_of (at t i))))) (latest_at (third_of (at t i)))
+  pub linking_more : i < end → Linking t (set (set links i (at links (latest_at (third_of (at t i)))))
+      (latest_at (third_of (at t i)))
       (i + 1)) end (i + 1)
   linking_more h = record {
     linkable = record {
@@ -103,7 +104,8 @@ module _ {t links : List ℕ} {end i : ℕ} (L : Linking t links end i) where
       value j = stored links i (at links (latest_at c)) j (place_within h)
 
       property : (j : ℕ) → Stored own (latest_at c) (i + 1) j
-      property j = stored own (latest_at c) (i + 1) j (omega (arith, latest_within h, length-set links i (at links (latest_at c))))
+      property j = stored own (latest_at c) (i + 1) j
+          (omega (arith, latest_within h, length-set links i (at links (latest_at c))))
 
       is_value_lem : ValueAt t c i
       is_value_lem = (linking_place h, L.values.left i (omega arith) h, refl)
@@ -118,7 +120,8 @@ module _ {t links : List ℕ} {end i : ℕ} (L : Linking t links end i) where
       last z (inr (n, f)) (inr (q, g)) = rw (f, g) (link_on (i + 1) (omega arith)
           (λ j a b (l, k, e). n (ap latest_at (sym e ∙ ap (λ (x : ℕ). third_of (at t x)) (omega arith)))) (L.last z))
 
-      next : (z j : ℕ) → j < i + 1 → ValueAt t z j → Stored own (latest_at c) (i + 1) j → Stored links i (at links (latest_at c)) j
+      next : (z j : ℕ) → j < i + 1 → ValueAt t z j → Stored own (latest_at c) (i + 1) j
+          → Stored links i (at links (latest_at c)) j
           → LinkTo t z j (at (set own (latest_at c) (i + 1)) j)
       next z j a v (inl (e, f)) s = absurd (omega (arith, linking_few h))
       next z j a (l, k, e) (inr (n, f)) (inl (q, g)) = rw (f, g, q) (subst (λ x. LinkTo t x i (at links (latest_at c)))

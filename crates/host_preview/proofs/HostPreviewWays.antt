@@ -17,7 +17,7 @@ use Rattle.packing.specs.Packed.{packed}
 use Rattle.packing.proofs.Refused.{refused_is, passed_is}
 use Rattle.preview.specs.Previews.{Asked, out_of_date, committing}
 use Rattle.preview.specs.PreviewPromises.{AskPromise, CommitPromise}
-use Rattle.host_preview.specs.HostPreview.{asked_on, committed_on, ask_number, HostAskPromise}
+use Rattle.host_preview.specs.HostPreview.{asked_on, committed_on, HostAskPromise}
 
 -- Asking.
 module _ (image ticket added removed : List ℕ) where

@@ -1,20 +1,19 @@
 -- The operators' calls on a whole list, from their contracts: what they keep, and that the list call is single calls one after
 -- another. Assumes nothing.
 use Prim.Native.Nat.{ℕ}
-use mathlib.Core.Path.{◌≡◌, refl, sym, ap, subst, ◌∙◌}
+use mathlib.Core.Path.{◌≡◌, sym, ap, subst, ◌∙◌}
 use mathlib.Core.Bool.{true}
 use mathlib.Core.List.{List}
-use native.Mathlib.Omega.{arith}
 use native.Mathlib.Decide.{ℕ_discrete}
-use lib.ListN.{length, take}
+use lib.ListN.{take}
 use Rattle.rdfs.specs.Numbers.{product, record_length}
 use Rattle.rdfs.specs.Words.{facts}
 use Rattle.rdfs.specs.Register.{Done, run_with, cut, Table}
-use Rattle.rdfs.specs.Operators.{operator_step, register_as, others}
+use Rattle.rdfs.specs.Operators.{operator_step, others}
 use Rattle.rdfs.proofs.OperatorTheorems.{operators_keep_others}
 use Rattle.rdfs.proofs.Theorems.{product_sound}
 use Rattle.list_form.specs.declared.answers.Listed.{Listed}
-use Rattle.list_form.specs.Listing.{list_refusal, operator_listing, ListAnswered, OperatorListPromise}
+use Rattle.list_form.specs.Listing.{list_refusal, OperatorListPromise}
 use Rattle.list_form.proofs.Runs.{as_runs}
 use Rattle.list.specs.CallContracts.{Single, OneByOne, left_by}
 use Rattle.list.specs.Demand3.{RanSingly, Ran, list_cut_off}

@@ -3,14 +3,13 @@
 use Prim.Native.Nat.{ℕ}
 use mathlib.Core.Path.{◌≡◌, sym, ap, subst, ◌∙◌}
 use mathlib.Core.List.{List, [], ◌∷◌}
-use native.Mathlib.Omega.{arith}
 use Rattle.rdfs.specs.Numbers.{product, operator_kinds}
 use Rattle.rdfs.specs.Lists.{◌∈◌}
 use Rattle.rdfs.specs.Words.{facts}
 use Rattle.rdfs.specs.Tickets.{decoded}
 use Rattle.rdfs.specs.Refusals.{first_or, first_true, First}
 use Rattle.rdfs.specs.Register.{run_with, Table}
-use Rattle.rdfs.specs.Operators.{earlier_tests, operator_step, operator_tests, others}
+use Rattle.rdfs.specs.Operators.{earlier_tests, operator_tests, others}
 use Rattle.rdfs.proofs.OperatorTheorems.{
   operators_as_plain,
   others_are_refused,

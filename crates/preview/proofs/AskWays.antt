@@ -1,7 +1,7 @@
 -- The ways through asking: refused by the table or the ticket, a run too short, and asked. Assumes nothing.
 use Prim.Native.Nat.{ℕ, ◌≤◌, ◌<◌}
 use mathlib.Core.Path.{◌≡◌, refl, sym, ap, subst, ◌∙◌}
-use mathlib.Core.Bool.{Bool, false, not, ◌||◌, cond}
+use mathlib.Core.Bool.{false, cond}
 use mathlib.Core.Logic.{◌⊎◌, inl, inr, ⊎_elim}
 use mathlib.Core.List.{List, ◌++◌}
 use native.Mathlib.Omega.{arith}
@@ -11,7 +11,6 @@ use Rattle.rdfs.specs.Numbers.{Numbers, product}
 use Rattle.rdfs.specs.Register.{Answer, step, refused_with, Table}
 use Rattle.rdfs.proofs.Lists.Tests.{or_either, either_or}
 use Rattle.rdfs.proofs.Lists.Filters.{cond_yes, cond_no}
-use Rattle.rdfs.proofs.Tickets.Steps.{refused_keeps}
 use Rattle.ticket.specs.Answered.{Answered, AnsweredAs, refused_answer}
 use Rattle.ticket.specs.declared.answer.Applied.{Applied}
 use Rattle.preview.specs.Previews.{

@@ -1,11 +1,11 @@
 -- The ways through committing: refused by the table or the ticket, out of date, and carried out. Assumes nothing.
 use Prim.Native.Nat.{ℕ}
-use mathlib.Core.Path.{◌≡◌, refl, sym, ap, subst, ◌∙◌}
+use mathlib.Core.Path.{◌≡◌, sym, ap, subst, ◌∙◌}
 use mathlib.Core.Bool.{Bool, true, false, not, ◌&&◌}
 use mathlib.Core.List.{List}
-use lib.Dec.{T, eqb, eqb→eq, T_not, not_T}
+use lib.Dec.{T, eqb, eqb→eq}
 use Rattle.rdfs.specs.Numbers.{Numbers, product}
-use Rattle.rdfs.specs.Register.{Answer, step, refused_with, Table}
+use Rattle.rdfs.specs.Register.{step, refused_with, Table}
 use Rattle.rdfs.proofs.Lists.Tests.{and_both, both_and}
 use Rattle.rdfs.proofs.Lists.Filters.{cond_yes, cond_no}
 use Rattle.rdfs.proofs.Tickets.Steps.{refused_keeps}

@@ -6,7 +6,6 @@ use mathlib.Core.List.{List}
 use lib.Dec.{T}
 use lib.ListN.{length}
 use Rattle.rdfs.specs.Numbers.{Numbers, Sound}
-use Rattle.rdfs.specs.Lists.{◌∈◌}
 use Rattle.rdfs.specs.Words.{filled, facts, words}
 use Rattle.rdfs.specs.Tickets.{decoded, inserts, deletes, asked, named}
 use Rattle.rdfs.specs.Register.{besides, step, Table}

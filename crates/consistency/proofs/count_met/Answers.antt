@@ -33,7 +33,11 @@ slice_bounds-words-end c =
 
 pub count_indexed-met-requires : goal.count_indexed-met-requires
 count_indexed-met-requires c =
-    let r = counted_words c.args.table.now c.requires.layout _ c.count_facts-count.ensures.answer c.requires.size in record { words = r.0; few = r.1 }
+    let r = counted_words c.args.table.now c.requires.layout _ c.count_facts-count.ensures.answer c.requires.size in
+    record {
+      words = r.0;
+      few = r.1;
+    }
 
 pub returns-then-met-lt-INDEXED : goal.returns-then-met-lt-INDEXED
 returns-then-met-lt-INDEXED c =
@@ -44,7 +48,11 @@ returns-then-met-lt-INDEXED c =
 
 pub all_exclusive-requires : goal.all_exclusive-requires
 all_exclusive-requires c =
-    let r = counted_words c.args.table.now c.requires.layout _ c.count_facts-count.ensures.answer c.requires.size in record { words = r.0; few = r.1 }
+    let r = counted_words c.args.table.now c.requires.layout _ c.count_facts-count.ensures.answer c.requires.size in
+    record {
+      words = r.0;
+      few = r.1;
+    }
 
 pub returns-then-all_exclusive : goal.returns-then-all_exclusive
 returns-then-all_exclusive c =

@@ -30,7 +30,8 @@ pub returns-then-two : goal.returns-then-two
 returns-then-two c =
     record {
       answer = two_shared (facts_of c.args.table.now) c.args.a c.args.b
-          (decides_true _ c.flag_exclusive-above.ensures.answer c.if-above.true) (c.fill_holders-two.ensures.answer.two c.if-two.true);
+          (decides_true _ c.flag_exclusive-above.ensures.answer c.if-above.true)
+          (c.fill_holders-two.ensures.answer.two c.if-two.true);
     }
 
 pub returns-then-above : goal.returns-then-above

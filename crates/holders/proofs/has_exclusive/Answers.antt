@@ -15,7 +15,9 @@ returns-then-kind_of-eq-EXCLUSIVE c =
 
 pub returns-else-kind_of-eq-EXCLUSIVE : goal.returns-else-kind_of-eq-EXCLUSIVE
 returns-else-kind_of-eq-EXCLUSIVE c =
-    record { answer = last_exclusive c.requires.words _ refl (λ e. c.if-kind_of-eq-EXCLUSIVE.false (c.kind_of.ensures.answer ∙ e)) }
+    record {
+      answer = last_exclusive c.requires.words _ refl (λ e. c.if-kind_of-eq-EXCLUSIVE.false (c.kind_of.ensures.answer ∙ e));
+    }
 
 pub returns-else-count-gt0 : goal.returns-else-count-gt0
 returns-else-count-gt0 c = record { answer = λ (i, l, k). omega (arith, c.if-count-gt0.false) }

@@ -18,13 +18,26 @@ bounds-table-place c =
     omega arith
 
 pub overflow_sub-word : goal.overflow_sub-word
-overflow_sub-word c = omega (arith, (span_found c.requires.table.counted c.requires.table.id c.word_of-least.ensures.answer c.count_below-place.ensures.answer).above c.if-place-count.true)
+overflow_sub-word c = omega (
+  arith,
+  (span_found c.requires.table.counted c.requires.table.id c.word_of-least.ensures.answer
+      c.count_below-place.ensures.answer).above c.if-place-count.true,
+)
 
 pub returns-then-word-least : goal.returns-then-word-least
-returns-then-word-least c = record { answer = (span_found c.requires.table.counted c.requires.table.id c.word_of-least.ensures.answer c.count_below-place.ensures.answer).some c.if-place-count.true (omega arith) }
+returns-then-word-least c = record {
+  answer = (span_found c.requires.table.counted c.requires.table.id
+      c.word_of-least.ensures.answer c.count_below-place.ensures.answer).some c.if-place-count.true (omega arith);
+}
 
 pub returns-else-word-least : goal.returns-else-word-least
-returns-else-word-least c = record { answer = (span_found c.requires.table.counted c.requires.table.id c.word_of-least.ensures.answer c.count_below-place.ensures.answer).none (λ _. omega arith) }
+returns-else-word-least c = record {
+  answer = (span_found c.requires.table.counted c.requires.table.id
+      c.word_of-least.ensures.answer c.count_below-place.ensures.answer).none (λ _. omega arith);
+}
 
 pub returns-else-place-count : goal.returns-else-place-count
-returns-else-place-count c = record { answer = (span_found c.requires.table.counted c.requires.table.id c.word_of-least.ensures.answer c.count_below-place.ensures.answer).none (λ h. absurd (omega arith)) }
+returns-else-place-count c = record {
+  answer = (span_found c.requires.table.counted c.requires.table.id
+      c.word_of-least.ensures.answer c.count_below-place.ensures.answer).none (λ h. absurd (omega arith));
+}

@@ -17,7 +17,8 @@ pub returns-then-individual : goal.returns-then-individual
 returns-then-individual c =
     record {
       answer = or_second c.has_role_besides-class.ensures.answer
-          (or_second c.has_role_besides-property.ensures.answer (or_first _ (told c.has_role_besides-individual.ensures.answer c.if-individual.true)));
+          (or_second c.has_role_besides-property.ensures.answer
+          (or_first _ (told c.has_role_besides-individual.ensures.answer c.if-individual.true)));
     }
 
 pub returns : goal.returns

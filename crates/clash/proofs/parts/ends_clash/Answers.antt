@@ -16,7 +16,8 @@ pub returns-then-range : goal.returns-then-range
 returns-then-range c =
     record {
       answer = or_second c.is_mixed-mixed.ensures.answer
-          (or_second c.is_backwards-domain.ensures.answer (or_first _ (told c.is_backwards-range.ensures.answer c.if-range.true)));
+          (or_second c.is_backwards-domain.ensures.answer
+          (or_first _ (told c.is_backwards-range.ensures.answer c.if-range.true)));
     }
 
 pub returns : goal.returns

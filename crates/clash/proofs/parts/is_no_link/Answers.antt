@@ -12,4 +12,7 @@ returns-then-a-eq-RESOURCE c =
 
 pub returns : goal.returns
 returns c =
-    record { answer = or_rest (ne_eqb _ _ c.if-a-b.false) (or_rest (ne_eqb _ _ c.if-a-eq-RESOURCE.false) c.has_fact.ensures.answer) }
+    record {
+      answer = or_rest (ne_eqb _ _ c.if-a-b.false) (or_rest (ne_eqb _ _ c.if-a-eq-RESOURCE.false)
+          c.has_fact.ensures.answer);
+    }

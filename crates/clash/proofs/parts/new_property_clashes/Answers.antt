@@ -17,7 +17,8 @@ pub returns-then-range : goal.returns-then-range
 returns-then-range c =
     record {
       answer = or_second c.has_other_role-taken.ensures.answer
-          (or_second c.has_other_role-domain.ensures.answer (or_first _ (told c.is_no_range-range.ensures.answer c.if-range.true)));
+          (or_second c.has_other_role-domain.ensures.answer
+          (or_first _ (told c.is_no_range-range.ensures.answer c.if-range.true)));
     }
 
 pub returns : goal.returns

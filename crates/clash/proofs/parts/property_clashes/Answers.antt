@@ -10,4 +10,7 @@ returns-then-there c =
 
 pub returns : goal.returns
 returns c =
-    record { answer = and_rest (ap not (told c.has_property-there.ensures.answer c.if-there.false)) c.new_property_clashes.ensures.answer }
+    record {
+      answer = and_rest (ap not (told c.has_property-there.ensures.answer c.if-there.false))
+          c.new_property_clashes.ensures.answer;
+    }

@@ -26,7 +26,8 @@ returns-then-not-meets c =
           record {
             within = omega (arith, c.loop-at.invariant.0);
             before = c.loop-at.invariant.1;
-            broken = λ h. decided_broken c.meets.result (Meets G (rule_at rules_in_order c.loop-at.at)) answer (ap not c.if-not-meets.true);
+            broken = λ h. decided_broken c.meets.result (Meets G (rule_at rules_in_order c.loop-at.at)) answer
+                (ap not c.if-not-meets.true);
           };
     }
 

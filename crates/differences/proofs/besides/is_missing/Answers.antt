@@ -7,7 +7,8 @@ use Rattle.differences.proofs.besides.is_missing.Goals as goal
 
 pub slice_bounds-is_besides-end : goal.slice_bounds-is_besides-end
 slice_bounds-is_besides-end c =
-    sym (length-take-le _ _ (missing_within c.requires.tables c.count_facts-count.ensures.answer c.count_facts-others.ensures.answer))
+    sym (length-take-le _ _ (missing_within c.requires.tables c.count_facts-count.ensures.answer
+    c.count_facts-others.ensures.answer))
 
 pub slice_bounds-is_besides-end-2 : goal.slice_bounds-is_besides-end-2
 slice_bounds-is_besides-end-2 c =
@@ -16,7 +17,9 @@ slice_bounds-is_besides-end-2 c =
 
 pub is_besides-requires : goal.is_besides-requires
 is_besides-requires c =
-    record { lists = missing_measured c.requires.tables c.count_facts-count.ensures.answer c.count_facts-others.ensures.answer refl }
+    record {
+      lists = missing_measured c.requires.tables c.count_facts-count.ensures.answer c.count_facts-others.ensures.answer refl;
+    }
 
 pub returns : goal.returns
 returns c =

@@ -23,7 +23,11 @@ overflow_add-at c =
 
 pub loop-passed-preserved : goal.loop-passed-preserved
 loop-passed-preserved c =
-    elim c.if-word-other-2.branch [ then-word-other-2 w ↦ rw w.at-is (search_same c.loop-passed.invariant c.loop-passed-test.true w.if-word-other-2.true) | else-word-other-2 w ↦ rw w.at-is (search_past c.loop-passed.invariant c.loop-passed-test.true (omega (arith, w.if-word-other-2.false))) ]
+    elim c.if-word-other-2.branch [
+      | then-word-other-2 w ↦ rw w.at-is (search_same c.loop-passed.invariant c.loop-passed-test.true w.if-word-other-2.true)
+      | else-word-other-2 w ↦ rw w.at-is
+          (search_past c.loop-passed.invariant c.loop-passed-test.true (omega (arith, w.if-word-other-2.false)))
+    ]
 
 pub returns : goal.returns
 returns c = record { answer = search_end c.loop-passed.invariant c.loop-passed-test.false }

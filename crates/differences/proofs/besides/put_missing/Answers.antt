@@ -6,7 +6,8 @@ use Rattle.differences.proofs.besides.put_missing.Goals as goal
 
 pub slice_bounds-put_besides-end : goal.slice_bounds-put_besides-end
 slice_bounds-put_besides-end c =
-    sym (length-take-le _ _ (missing_within c.requires.tables c.count_facts-count.ensures.answer c.count_facts-others.ensures.answer))
+    sym (length-take-le _ _ (missing_within c.requires.tables c.count_facts-count.ensures.answer
+    c.count_facts-others.ensures.answer))
 
 pub slice_bounds-put_besides-end-2 : goal.slice_bounds-put_besides-end-2
 slice_bounds-put_besides-end-2 c =
@@ -15,7 +16,9 @@ slice_bounds-put_besides-end-2 c =
 
 pub put_besides-requires : goal.put_besides-requires
 put_besides-requires c =
-    record { lists = missing_measured c.requires.tables c.count_facts-count.ensures.answer c.count_facts-others.ensures.answer refl }
+    record {
+      lists = missing_measured c.requires.tables c.count_facts-count.ensures.answer c.count_facts-others.ensures.answer refl;
+    }
 
 pub returns : goal.returns
 returns c =

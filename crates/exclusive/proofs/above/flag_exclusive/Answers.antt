@@ -8,7 +8,11 @@ use Rattle.exclusive.proofs.above.flag_exclusive.Goals.{then-above, else-above}
 
 pub loop-at-init : goal.loop-at-init
 loop-at-init c =
-    record { from_on = omega arith; within = c.words_of-words.ensures.places.ordered; state = flagging_start c.requires.table.unset }
+    record {
+      from_on = omega arith;
+      within = c.words_of-words.ensures.places.ordered;
+      state = flagging_start c.requires.table.unset;
+    }
 
 pub offset_bounds-table-at : goal.offset_bounds-table-at
 offset_bounds-table-at c =
@@ -19,7 +23,13 @@ bounds-table-at c =
     omega (arith, c.words_of-words.ensures.places.within, (counted_search c.requires.table.counted).0)
 
 pub is_under-above-requires-clause-table : goal.is_under-above-requires-clause-table
-is_under-above-requires-clause-table c = record { counted = c.requires.table.counted; ids = (omega (arith, c.first_of-x.ensures.answer, c.requires.table.id), omega (arith, c.first_of-x.ensures.answer, c.requires.table.id)) }
+is_under-above-requires-clause-table c = record {
+  counted = c.requires.table.counted;
+  ids = (
+    omega (arith, c.first_of-x.ensures.answer, c.requires.table.id),
+    omega (arith, c.first_of-x.ensures.answer, c.requires.table.id),
+  );
+}
 
 pub bounds-flags-place : goal.bounds-flags-place
 bounds-flags-place c =
@@ -28,15 +38,20 @@ bounds-flags-place c =
 pub loop-at-preserved : goal.loop-at-preserved
 loop-at-preserved c =
     pass_more c.loop-at.invariant c.loop-at-test.true (elim c.if-above.branch [
-      | then-above w ↦ flagging_hit c.requires.table.counted c.words_of-words.ensures.places c.loop-at.invariant.from_on c.loop-at-test.true c.first_of-x.ensures.answer c.loop-at.invariant.state
-          (omega (arith, c.first_of-x.ensures.answer, c.loop-at.invariant.state.same, c.requires.table.whole)) (sym c.is_under-above.ensures.answer ∙ w.if-above.true)
+      | then-above w ↦ flagging_hit c.requires.table.counted c.words_of-words.ensures.places c.loop-at.invariant.from_on
+          c.loop-at-test.true c.first_of-x.ensures.answer c.loop-at.invariant.state
+          (omega (arith, c.first_of-x.ensures.answer, c.loop-at.invariant.state.same, c.requires.table.whole))
+          (sym c.is_under-above.ensures.answer ∙ w.if-above.true)
           w.place.ensures.answer w.flags-is w.some-is
-      | else-above w ↦ flagging_miss c.requires.table.counted c.words_of-words.ensures.places c.loop-at.invariant.from_on c.loop-at-test.true c.first_of-x.ensures.answer c.loop-at.invariant.state
+      | else-above w ↦ flagging_miss c.requires.table.counted c.words_of-words.ensures.places c.loop-at.invariant.from_on
+          c.loop-at-test.true c.first_of-x.ensures.answer c.loop-at.invariant.state
           (sym c.is_under-above.ensures.answer ∙ w.if-above.false) w.flags-is w.some-is
     ])
 
 pub returns-clause-flags : goal.returns-clause-flags
-returns-clause-flags c = flagging_says c.requires.table.counted c.words_of-words.ensures.places c.loop-at.invariant.state c.loop-at.invariant.within (omega (arith, c.loop-at-test.false))
+returns-clause-flags c = flagging_says c.requires.table.counted c.words_of-words.ensures.places c.loop-at.invariant.state
+    c.loop-at.invariant.within (omega (arith, c.loop-at-test.false))
 
 pub returns-clause-answer : goal.returns-clause-answer
-returns-clause-answer c = flagging_any c.requires.table.counted c.words_of-words.ensures.places c.loop-at.invariant.state c.loop-at.invariant.within (omega (arith, c.loop-at-test.false))
+returns-clause-answer c = flagging_any c.requires.table.counted c.words_of-words.ensures.places c.loop-at.invariant.state
+    c.loop-at.invariant.within (omega (arith, c.loop-at-test.false))

@@ -11,7 +11,11 @@ use Rattle.exclusive.proofs.holders.fill_holders.Goals.{then-third_of-p+else-oth
 
 pub loop-at-init : goal.loop-at-init
 loop-at-init c =
-    record { from_on = omega arith; within = c.words_of-words.ensures.places.ordered; state = (refl, noted_start c.requires.holders.none) }
+    record {
+      from_on = omega arith;
+      within = c.words_of-words.ensures.places.ordered;
+      state = (refl, noted_start c.requires.holders.none);
+    }
 
 pub offset_bounds-table-at : goal.offset_bounds-table-at
 offset_bounds-table-at c = omega (arith, c.words_of-words.ensures.places.within, (counted_search c.requires.table).0)
@@ -30,8 +34,16 @@ pub returns-then-other : goal.returns-then-other
 returns-then-other c =
     record {
       answer = record {
-        two = λ _. noted_clash c.loop-at.invariant.state.1 c.loop-at.invariant.from_on (sym c.third_of.ensures.answer ∙ c.if-third_of-p.true)
-            c.first_of-x.ensures.answer (c.place-y.ensures.answer ∙ c.second_of.ensures.answer) (omega (arith, c.place-y.ensures.answer, c.second_of.ensures.answer, c.loop-at.invariant.state.0, c.requires.holders.whole)) c.requires.table
+        two = λ _. noted_clash c.loop-at.invariant.state.1 c.loop-at.invariant.from_on (sym c.third_of.ensures.answer
+            ∙ c.if-third_of-p.true)
+            c.first_of-x.ensures.answer (c.place-y.ensures.answer ∙ c.second_of.ensures.answer)
+            (omega (
+              arith,
+              c.place-y.ensures.answer,
+              c.second_of.ensures.answer,
+              c.loop-at.invariant.state.0,
+              c.requires.holders.whole,
+            )) c.requires.table
             c.words_of-words.ensures.places c.loop-at-test.true (decides_true _ c.is_other-other.ensures.answer c.if-other.true);
         one = λ e. absurd (subst T e tt);
       };
@@ -48,10 +60,18 @@ pub loop-at-preserved : goal.loop-at-preserved
 loop-at-preserved c =
     pass_more c.loop-at.invariant c.loop-at-test.true (elim c.if-third_of-p.branch [
       | then-third_of-p+else-other w ↦ (
-        ap length w.holders-is ∙ (length-set c.loop-at.holders w.place-y.result w.first_of-x.result ∙ c.loop-at.invariant.state.0),
-        noted_hit c.loop-at.invariant.state.1 c.loop-at.invariant.from_on (sym c.third_of.ensures.answer ∙ w.if-third_of-p.true) w.first_of-x.ensures.answer
+        ap length w.holders-is ∙ (length-set c.loop-at.holders w.place-y.result w.first_of-x.result
+            ∙ c.loop-at.invariant.state.0),
+        noted_hit c.loop-at.invariant.state.1 c.loop-at.invariant.from_on (sym c.third_of.ensures.answer ∙ w.if-third_of-p.true)
+            w.first_of-x.ensures.answer
             (w.place-y.ensures.answer ∙ w.second_of.ensures.answer)
-            (omega (arith, w.place-y.ensures.answer, w.second_of.ensures.answer, c.loop-at.invariant.state.0, c.requires.holders.whole))
+            (omega (
+              arith,
+              w.place-y.ensures.answer,
+              w.second_of.ensures.answer,
+              c.loop-at.invariant.state.0,
+              c.requires.holders.whole,
+            ))
             (decides_false _ w.is_other-other.ensures.answer w.if-other.false) w.holders-is,
       )
       | else-third_of-p w ↦ (
@@ -65,6 +85,7 @@ returns c =
     record {
       answer = record {
         two = λ e. absurd (subst T (sym e) tt);
-        one = λ _. noted_done c.loop-at.invariant.state.1 c.requires.table c.words_of-words.ensures.places c.loop-at.invariant.within (omega (arith, c.loop-at-test.false));
+        one = λ _. noted_done c.loop-at.invariant.state.1 c.requires.table c.words_of-words.ensures.places
+            c.loop-at.invariant.within (omega (arith, c.loop-at-test.false));
       };
     }

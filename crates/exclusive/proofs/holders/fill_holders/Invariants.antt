@@ -9,7 +9,8 @@ use Rattle.exclusive.proofs.holders.fill_holders.Given as goal
 
 abbrev pub invariant-loop-at : goal.invariant-loop-at
 invariant-loop-at l =
-    Pass l.words.from l.words.to l.at ((length l.holders ≡ length l.initial.holders) × Noted l.table l.words.from l.at l.p l.holders)
+    Pass l.words.from l.words.to l.at ((length l.holders ≡ length l.initial.holders) × Noted l.table l.words.from l.at l.p
+    l.holders)
 
 abbrev pub decreases-loop-at : goal.decreases-loop-at
 decreases-loop-at l = l.words.to - l.at

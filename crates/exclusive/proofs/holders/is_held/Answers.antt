@@ -42,8 +42,10 @@ returns-then-other c =
 pub loop-at-preserved : goal.loop-at-preserved
 loop-at-preserved c =
     pass_more c.loop-at.invariant c.loop-at-test.true (elim c.if-flags-place.branch [
-      | then-flags-place+else-other w ↦ unshared_more w.first_of.ensures.answer (w.place-then-flags-place.ensures.answer ∙ w.second_of.ensures.answer)
-          (omega (arith, w.place-then-flags-place.ensures.answer, w.second_of.ensures.answer, c.requires.ids.1)) c.loop-at.invariant.state
+      | then-flags-place+else-other w ↦ unshared_more w.first_of.ensures.answer (w.place-then-flags-place.ensures.answer
+          ∙ w.second_of.ensures.answer)
+          (omega (arith, w.place-then-flags-place.ensures.answer, w.second_of.ensures.answer, c.requires.ids.1))
+          c.loop-at.invariant.state
           (decides_false _ w.is_other-other.ensures.answer w.if-other.false)
       | else-flags-place w ↦ unshared_other c.loop-at.invariant.state (λ f. subst T (ap (flagged c.args.flags.now)
           (sym (c.place.ensures.answer ∙ c.third_of.ensures.answer)) ∙ w.if-flags-place.false) f)
@@ -51,4 +53,7 @@ loop-at-preserved c =
 
 pub returns : goal.returns
 returns c =
-    record { answer = unshared_done c.requires.table c.loop-at.invariant.state c.words_of-words.ensures.places (omega (arith, c.loop-at-test.false)) }
+    record {
+      answer = unshared_done c.requires.table c.loop-at.invariant.state c.words_of-words.ensures.places
+          (omega (arith, c.loop-at-test.false));
+    }

@@ -24,7 +24,8 @@ bounds-table-at c = omega (arith, c.loop-at.invariant.properties.within)
 pub is_held_once-requires : goal.is_held_once-requires
 is_held_once-requires c =
     record {
-      links = let fact = c.requires.links.linkable.words.facts c.loop-at.at (omega (arith, c.loop-at.invariant.properties.within)) in
+      links = let fact = c.requires.links.linkable.words.facts c.loop-at.at
+          (omega (arith, c.loop-at.invariant.properties.within)) in
           record {
             linked = c.requires.links;
             id = rw c.first_of.ensures.answer fact.allowed.first;
@@ -37,8 +38,10 @@ pub returns-then-not-is_held_once : goal.returns-then-not-is_held_once
 returns-then-not-is_held_once c =
     record {
       answer = let answer = rw c.first_of.ensures.answer at c.is_held_once.ensures.answer in
-          λ held. decided_broken c.is_held_once.result (HeldOnce c.args.table.now (first_of (at c.args.table.now c.loop-at.at))) answer (ap not c.if-not-is_held_once.true)
-          (held c.loop-at.at (omega (arith, c.loop-at.invariant.properties.within)) (c.loop-at.invariant.properties.left c.loop-at.at (omega arith) c.loop-at-test.true));
+          λ held. decided_broken c.is_held_once.result
+          (HeldOnce c.args.table.now (first_of (at c.args.table.now c.loop-at.at))) answer (ap not c.if-not-is_held_once.true)
+          (held c.loop-at.at (omega (arith, c.loop-at.invariant.properties.within))
+          (c.loop-at.invariant.properties.left c.loop-at.at (omega arith) c.loop-at-test.true));
     }
 
 pub overflow_add-at : goal.overflow_add-at
@@ -49,7 +52,8 @@ loop-at-preserved c =
     let answer = rw c.first_of.ensures.answer at c.is_held_once.ensures.answer in
     let stamps = rw c.first_of.ensures.answer at c.is_held_once.ensures.stamps in
     judging_more c.requires.links.linkable.words c.loop-at.invariant _ c.loop-at-test.true
-    (decided_met c.is_held_once.result (HeldOnce c.args.table.now (first_of (at c.args.table.now c.loop-at.at))) answer (ap not c.if-not-is_held_once.false))
+    (decided_met c.is_held_once.result (HeldOnce c.args.table.now (first_of (at c.args.table.now c.loop-at.at))) answer
+    (ap not c.if-not-is_held_once.false))
     c.is_held_once.auto.seen stamps
 
 pub returns : goal.returns

@@ -47,7 +47,14 @@ bounds-seen-y-in-loop-link c =
 
 pub number_at-link-requires-in-loop-link : goal.number_at-link-requires-in-loop-link
 number_at-link-requires-in-loop-link c =
-    record { place = omega (arith, walking_place c.loop-link.invariant (omega arith), c.requires.links.linked.linkable.few, c.requires.links.linked.linkable.places) }
+    record {
+      place = omega (
+        arith,
+        walking_place c.loop-link.invariant (omega arith),
+        c.requires.links.linked.linkable.few,
+        c.requires.links.linked.linkable.places,
+      );
+    }
 
 pub loop-link-smaller : goal.loop-link-smaller
 loop-link-smaller c =

@@ -47,7 +47,8 @@ returns-then-not-ids_meet c =
         c.third_of.ensures.answer,
       ) at c.ids_meet.ensures.answer in
           let kind = c.loop-at.invariant.left c.loop-at.at (omega arith) c.loop-at-test.true in
-          λ met. decided_broken c.ids_meet.result (Asked c.args.table.now c.args.test c.loop-at.at) answer (ap not c.if-not-ids_meet.true)
+          λ met. decided_broken c.ids_meet.result (Asked c.args.table.now c.args.test c.loop-at.at) answer
+          (ap not c.if-not-ids_meet.true)
           (met c.loop-at.at (omega (arith, c.loop-at.invariant.within)) kind);
     }
 
