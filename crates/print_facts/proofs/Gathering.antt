@@ -46,15 +46,16 @@ module _ (t : List ℕ) where
           one_more ∙ (ap (λ l. filled (take i t) ++ l) none ∙ append-nil (filled (take i t))) in
           record { lines = subst (λ l. WordLines l (take at out)) (sym same) q.lines; short = omega (arith, q.short) }
 
-      pub gathered_more : {r : ℕ} {new : List ℕ} → (get_or t i 0 ≡ 0 → ⊥) → (r ≤ at + 11) × Puts (Number (get_or t i 0) 10) at r out
-          new → Gathered t (i + 1) r new
+      pub gathered_more : {r : ℕ} {new : List ℕ} → (get_or t i 0 ≡ 0 → ⊥)
+          → (r ≤ at + 11) × Puts (Number (get_or t i 0) 10) at r out new → Gathered t (i + 1) r new
       gathered_more {r} {new} n (short, p) =
-          let some : filled (get_or t i 0 ∷ []) ≡ get_or t i 0 ∷ [] = ap (λ b. cond (not b) (get_or t i 0 ∷ []) []) (ne_eqb _ _ n) in
+          let some : filled (get_or t i 0 ∷ []) ≡ get_or t i 0 ∷ [] =
+          ap (λ b. cond (not b) (get_or t i 0 ∷ []) []) (ne_eqb _ _ n) in
           let longer : filled (take (i + 1) t) ≡ filled (take i t) ++ (get_or t i 0 ∷ []) =
           one_more ∙ ap (λ l. filled (take i t) ++ l) some in
           let text : WordLines (filled (take i t) ++ (get_or t i 0 ∷ [])) (take r new) =
-          subst (WordLines (filled (take i t) ++ (get_or t i 0 ∷ []))) (sym p.there) (lines_more (filled (take i t)) (get_or t i 0)
-          (take at out) p.text q.lines p.is) in
+          subst (WordLines (filled (take i t) ++ (get_or t i 0 ∷ []))) (sym p.there)
+          (lines_more (filled (take i t)) (get_or t i 0) (take at out) p.text q.lines p.is) in
           record { lines = subst (λ l. WordLines l (take r new)) (sym longer) text; short = omega (arith, short, q.short) }
 
     pub gathered_done : i ≤ length t → length t ≤ i → 11 * length t ≤ length out → WordsPrinted (filled t) at out

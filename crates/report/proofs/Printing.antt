@@ -92,8 +92,8 @@ abbrev pub PrintingFrom : (start bytes : List ℕ) (i at : ℕ) (w out : List �
 PrintingFrom start bytes i at w out = Printing start (cut record_length bytes) (cut record_length (drop i bytes)) at w out
 
 module _ (start bytes : List ℕ) {i at : ℕ} {w out : List ℕ} (q : PrintingFrom start bytes i at w out) where
-  pub printing_end : length bytes ≤ i → 18 * length (cut record_length bytes) ≤ length out → Printed start (cut record_length bytes)
-      at w out
+  pub printing_end : length bytes ≤ i → 18 * length (cut record_length bytes) ≤ length out
+      → Printed start (cut record_length bytes) at w out
   printing_end h room =
       let last : Printing start (cut record_length bytes) [] at w out =
       subst (λ l. Printing start (cut record_length bytes) l at w out) (cut_end record_length bytes h) q in
@@ -102,7 +102,8 @@ module _ (start bytes : List ℕ) {i at : ℕ} {w out : List ℕ} (q : PrintingF
   -- The next ticket ends at e.
   module _ {e : ℕ} (h : i < length bytes) (end : e ≡ min (i + record_length) (length bytes)) where
     next : Printing start (cut record_length bytes) (take (e - i) (drop i bytes) ∷ cut record_length (drop e bytes)) at w out
-    next = subst (λ l. Printing start (cut record_length bytes) l at w out) (cut_from record_length (omega arith) bytes i e h end) q
+    next = subst (λ l. Printing start (cut record_length bytes) l at w out)
+        (cut_from record_length (omega arith) bytes i e h end) q
 
     pub printing_line : 18 * length (cut record_length bytes) ≤ length out → at + 18 ≤ length out
     printing_line room = omega (arith, printing_room start (cut record_length bytes) next room)
