@@ -1,7 +1,7 @@
 // The standard streams of the programs: input read into a lent buffer, text written, and what is said
 // on standard error where one of them fails.
 //
-// No function has a `requires`. The crate assumes the contracts of std's `Read` and `Print`, which say how many
+// No function has a `requires`. The crate assumes std's contracts of `Read` and `Print`, which say how many
 // bytes a call moves; which bytes they are, and from or to which stream, no contract can say.
 #![tactic(auto)]
 
