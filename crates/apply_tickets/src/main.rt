@@ -20,7 +20,7 @@ const CHUNK: usize = 16000;
 // Runs the whole input on a fresh table and prints the count. The answer is the length of the count's line,
 // which stands at the start of out; 0 if a read or a write failed.
 fn run_program(
-    rt: &(impl Input + Print + Eprint),
+    rt: &(impl Input + Print),
     table: &mut [Word],
     bytes: &mut [u8],
     out: &mut [u8],
@@ -34,7 +34,7 @@ fn run_program(
     let all = run_input(rt, table, bytes, out);
     if all {
         let length = put_count(table, out);
-        let written = write_output(rt, "apply_tickets", &out[..length]);
+        let written = write_output(rt, b"apply_tickets", &out[..length]);
         if written {
             return length;
         }

@@ -28,11 +28,11 @@ fn put_answer(text: &[u8], out: &mut [u8]) -> usize
 
 fn main(rt: HostRuntime) {
     let mut input = text_buffer();
-    let filled = read_whole(&rt, "check_triples", &mut input);
+    let filled = read_whole(&rt, b"check_triples", &mut input);
     let Filled::Read(count) = filled else {
         return;
     };
     let mut out = [0u8; 4];
     let length = put_answer(&input[..count], &mut out);
-    write_output(&rt, "check_triples", &out[..length]);
+    write_output(&rt, b"check_triples", &out[..length]);
 }

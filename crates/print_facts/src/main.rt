@@ -11,11 +11,11 @@ use streams::{Filled, read_input, write_output};
 
 fn main(rt: HostRuntime) {
     let mut input = [0u8; LONGEST + 1];
-    let filled = read_input(&rt, "print_facts", &mut input);
+    let filled = read_input(&rt, b"print_facts", &mut input);
     let Filled::Read(count) = filled else {
         return;
     };
     let mut out = io::large_buffer();
     let length = put_read(&input, count, &mut out);
-    write_output(&rt, "print_facts", &out[..length]);
+    write_output(&rt, b"print_facts", &out[..length]);
 }

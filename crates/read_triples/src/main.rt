@@ -9,11 +9,11 @@ use streams::{Filled, read_whole, text_buffer, write_output};
 
 fn main(rt: HostRuntime) {
     let mut input = text_buffer();
-    let filled = read_whole(&rt, "read_triples", &mut input);
+    let filled = read_whole(&rt, b"read_triples", &mut input);
     let Filled::Read(count) = filled else {
         return;
     };
     let mut out = [0u8; LONGEST];
     let length = put_image(&input[..count], &mut out);
-    write_output(&rt, "read_triples", &out[..length]);
+    write_output(&rt, b"read_triples", &out[..length]);
 }

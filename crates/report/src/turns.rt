@@ -20,7 +20,7 @@ pub enum Turned {
 
 // Runs the tickets of the first n bytes of a chunk and writes their lines.
 fn run_tickets(
-    rt: &(impl Print + Eprint),
+    rt: &impl Print,
     table: &mut [Word],
     bytes: &[u8],
     count: usize,
@@ -32,7 +32,7 @@ fn run_tickets(
         out.new }
 {
     let length = put_lines(table, &bytes[..count], out);
-    let written = write_output(rt, "apply_tickets", &out[..length]);
+    let written = write_output(rt, b"apply_tickets", &out[..length]);
     if written {
         if count == bytes.len() {
             return Turned::More;
@@ -44,7 +44,7 @@ fn run_tickets(
 
 // Reads a chunk, runs its tickets and writes their lines. If the read fails, none of its tickets is run.
 fn run_chunk(
-    rt: &(impl Input + Print + Eprint),
+    rt: &(impl Input + Print),
     table: &mut [Word],
     bytes: &mut [u8],
     out: &mut [u8],
@@ -53,7 +53,7 @@ fn run_chunk(
     ensures turn { Shows result table.old bytes.new table.new
         out.new }
 {
-    let filled = read_input(rt, "apply_tickets", bytes);
+    let filled = read_input(rt, b"apply_tickets", bytes);
     let Filled::Read(count) = filled else {
         return Turned::Failed;
     };
@@ -63,7 +63,7 @@ fn run_chunk(
 // Runs the whole input, turn by turn. Whether it came to the end of the input. A loop has to end, and nothing
 // says that the input does: it counts down from a number that no run uses up.
 pub fn run_input(
-    rt: &(impl Input + Print + Eprint),
+    rt: &(impl Input + Print),
     table: &mut [Word],
     bytes: &mut [u8],
     out: &mut [u8],

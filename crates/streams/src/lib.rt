@@ -1,7 +1,7 @@
 // The standard streams of the programs: input read into a lent buffer, text written, and what is said
 // on standard error where one of them fails.
 //
-// No function has a `requires`. The crate assumes the contracts of std's `Read` and `Print`, which say how many
+// No function has a `requires`. The crate assumes std's contracts of `Read` and `Print`, which say how many
 // bytes a call moves; which bytes they are, and from or to which stream, no contract can say.
 #![tactic(auto)]
 
@@ -10,11 +10,13 @@ ghost use Rattle.std.specs.Prelude.{◌≡◌, length};
 
 use std::io::{Input, Read};
 
-// The descriptors of standard input and standard output, for the programs that read and print by the kit's
-// `io`.
+// The descriptors of standard input, standard output and standard error, for what is read and printed by the
+// kit's `io`.
 pub const STDIN: i32 = 0;
 
 pub const STDOUT: i32 = 1;
+
+const STDERR: i32 = 2;
 
 // The most bytes of a text that a program reads.
 pub const TEXT: usize = 1048576;
@@ -56,20 +58,21 @@ fn fill<R: Read>(reader: &mut R, buffer: &mut [u8]) -> Filled
 
 // Reads standard input into a buffer. If a read fails, a line on standard error says so, after the program's
 // name.
-pub fn read_input(rt: &(impl Input + Eprint), program: &str, buffer: &mut [u8]) -> Filled
+pub fn read_input(rt: &impl Input, program: &[u8], buffer: &mut [u8]) -> Filled
     ensures bound { Within result (length buffer.new) }
 {
     let mut reader = rt.reader();
     let filled = fill(&mut reader, buffer);
     if let Filled::Failed = filled {
-        let _ = eprintln!(rt; "{program}: standard input could not be read");
+        io::write_all(STDERR, program);
+        io::write_all(STDERR, b": standard input could not be read\n");
     }
     filled
 }
 
 // Reads all of standard input into a buffer that is longer than it. If it is not, or a read fails, a line on
 // standard error says so, after the program's name.
-pub fn read_whole(rt: &(impl Input + Eprint), program: &str, buffer: &mut [u8]) -> Filled
+pub fn read_whole(rt: &impl Input, program: &[u8], buffer: &mut [u8]) -> Filled
     ensures whole { Ends result (length buffer.new) }
 {
     let filled = read_input(rt, program, buffer);
@@ -77,7 +80,8 @@ pub fn read_whole(rt: &(impl Input + Eprint), program: &str, buffer: &mut [u8]) 
         return filled;
     };
     if count == buffer.len() {
-        let _ = eprintln!(rt; "{program}: the input is too long");
+        io::write_all(STDERR, program);
+        io::write_all(STDERR, b": the input is too long\n");
         return Filled::Failed;
     }
     filled
@@ -85,10 +89,11 @@ pub fn read_whole(rt: &(impl Input + Eprint), program: &str, buffer: &mut [u8]) 
 
 // Writes all of a text to standard output. If a write fails the answer is false, part of the text may have
 // been written, and a line on standard error says so, after the program's name.
-pub fn write_output(rt: &(impl Print + Eprint), program: &str, text: &[u8]) -> bool {
+pub fn write_output(rt: &impl Print, program: &[u8], text: &[u8]) -> bool {
     if rt.write_all(text).is_ok() {
         return true;
     }
-    let _ = eprintln!(rt; "{program}: standard output could not be written");
+    io::write_all(STDERR, program);
+    io::write_all(STDERR, b": standard output could not be written\n");
     false
 }

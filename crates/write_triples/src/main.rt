@@ -9,11 +9,11 @@ use streams::{Filled, read_input, write_output};
 
 fn main(rt: HostRuntime) {
     let mut input = [0u8; LONGEST + 1];
-    let filled = read_input(&rt, "write_triples", &mut input);
+    let filled = read_input(&rt, b"write_triples", &mut input);
     let Filled::Read(count) = filled else {
         return;
     };
     let mut out = [0u8; LONGEST_TEXT];
     let length = put_text(&input[..count], &mut out);
-    write_output(&rt, "write_triples", &out[..length]);
+    write_output(&rt, b"write_triples", &out[..length]);
 }

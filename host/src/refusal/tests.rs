@@ -77,7 +77,7 @@ fn numbers_tell_their_refusals() {
     }
 }
 
-/// `BadIds` is `BAD_IDS` in the library's code, with the same number, and `badIds` in its definitions. No
+/// `BadIds` is `BAD_IDS` in the library's code, with the same number, and `bad_ids` in its definitions. No
 /// refusal is in one list and not in the others.
 #[test]
 fn refusals_have_one_name() {
@@ -92,7 +92,7 @@ fn refusals_have_one_name() {
     let in_document: Vec<&str> = rows.map(|row| row.rsplit_once(" | ").unwrap().0).collect();
     let row = |refusal: &Refusal| {
         let name = name(*refusal);
-        let definition = format!("{}{}", name[..1].to_lowercase(), &name[1..]);
+        let definition = upper_case(*refusal).to_lowercase();
         format!("| {} | `{definition}` | `{}` | `{name}`", refusal.number(), upper_case(*refusal))
     };
     assert_eq!(in_document, all().iter().map(row).collect::<Vec<_>>());

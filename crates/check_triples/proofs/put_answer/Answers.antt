@@ -12,7 +12,7 @@ pub put_number-requires : goal.put_number-requires
 put_number-requires c =
     let read = c.read_triples-answer in
     let small = answer_small (replicate product.most 0) c.args.text.now read.result read.ensures.promise.answer_is in
-    record { room = number_fits 2 read.result 10 (omega arith) small 0 c.args.out.now (omega (arith, c.requires.room)) }
+    record { room = number_fits 2 read.result _ (omega arith) small 0 c.args.out.now (omega (arith, c.requires.room)) }
 
 pub returns : goal.returns
 returns c =

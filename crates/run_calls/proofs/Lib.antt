@@ -1,2 +1,0 @@
--- Elements: `apply_five`, a walk by hand.
-mod Elements
