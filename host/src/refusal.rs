@@ -1,5 +1,5 @@
 //! The reasons for which a call refuses, with the numbers of documents 01 and 02. Each has the name of the
-//! definition and of the library's constant: `badIds`, `BAD_IDS`, `BadIds`. docs/REFUSALS.md has who can
+//! definition and of the library's constant: `bad_ids`, `BAD_IDS`, `BadIds`. docs/REFUSALS.md has who can
 //! cause it and which calls give it.
 
 use crate::Rule;
