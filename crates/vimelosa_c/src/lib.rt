@@ -31,7 +31,8 @@ pub extern "C" fn vimelosa_apply_list(
     answers: &mut [u8],
     output: &mut [u8],
 ) -> u64
-    ensures promise { HostListPromise image.now tickets.now answers.old output.old result answers.new output.new }
+    ensures promise { HostListPromise image.now tickets.now
+        answers.old output.old result answers.new output.new }
 {
     vimelosa::vimelosa_apply_list(image, tickets, answers, output)
 }
@@ -43,7 +44,8 @@ pub extern "C" fn vimelosa_apply_operator_list(
     answers: &mut [u8],
     output: &mut [u8],
 ) -> u64
-    ensures promise { OperatorHostListPromise image.now tickets.now answers.old output.old result answers.new output.new }
+    ensures promise { OperatorHostListPromise image.now tickets.now
+        answers.old output.old result answers.new output.new }
 {
     vimelosa::vimelosa_apply_operator_list(image, tickets, answers, output)
 }
@@ -55,7 +57,8 @@ pub extern "C" fn vimelosa_ask(
     added: &mut [Word],
     removed: &mut [Word],
 ) -> u64
-    ensures promise { HostAskPromise image.now ticket.now added.old removed.old result added.new removed.new }
+    ensures promise { HostAskPromise image.now ticket.now added.old
+        removed.old result added.new removed.new }
 {
     vimelosa::vimelosa_ask(image, ticket, added, removed)
 }
@@ -68,7 +71,8 @@ pub extern "C" fn vimelosa_commit(
     removed: &[Word],
     output: &mut [u8],
 ) -> u64
-    ensures promise { HostCommitPromise image.now ticket.now added.now removed.now output.old result output.new }
+    ensures promise { HostCommitPromise image.now ticket.now
+        added.now removed.now output.old result output.new }
 {
     vimelosa::vimelosa_commit(image, ticket, added, removed, output)
 }
