@@ -1,6 +1,6 @@
 //! The reasons for which a call refuses, with the numbers of documents 01 and 02. Each has the name of the
-//! definition and of the library's constant: `bad_ids`, `BAD_IDS`, `BadIds`. docs/REFUSALS.md has who can
-//! cause it and which calls give it.
+//! definition, `bad_ids`, and of the library's variant, `BadIds`. docs/REFUSALS.md has who can cause it and
+//! which calls give it.
 
 use crate::Rule;
 use std::error::Error;

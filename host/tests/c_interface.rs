@@ -265,13 +265,15 @@ fn numbers_of_header(enumeration: &str) -> Vec<(String, u16)> {
     named.map(pair).collect()
 }
 
-/// The numbers of docs/REFUSALS.md, and the names that code has for them.
+/// The numbers of docs/REFUSALS.md, and the names of their definitions, as the header spells them.
 fn refusals_of_document() -> Vec<(String, u16)> {
     let document = text_of("../docs/REFUSALS.md");
     let row = |line: &str| {
         let cells: Vec<&str> = line.split('|').map(str::trim).collect();
         match cells[..] {
-            ["", number, _, name, ..] => Some((name.trim_matches('`').to_string(), number.parse().ok()?)),
+            ["", number, definition, ..] => {
+                Some((definition.trim_matches('`').to_uppercase(), number.parse().ok()?))
+            }
             _ => None,
         }
     };

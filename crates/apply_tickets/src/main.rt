@@ -18,33 +18,33 @@ use table_calls::fresh;
 const CHUNK: usize = 16000;
 
 // Runs the whole input on a fresh table and prints the count. The answer is the length of the count's line,
-// which stands at the start of out; 0 if a read or a write failed.
+// which stands at the start of out; None if a read or a write failed.
 fn run_program(
     rt: &(impl Input + Print),
     table: &mut [Word],
     bytes: &mut [u8],
     out: &mut [u8],
-) -> usize
+) -> Option<usize>
     requires most { length table.old ≡ product.most }
     requires sized { Sized (length bytes.old) (length out.old) }
     ensures printed { Finishes result (length bytes.old) table.new
         out.new }
 {
-    fresh(table);
+    let _outcome = fresh(table);
     let all = run_input(rt, table, bytes, out);
-    if all {
-        let length = put_count(table, out);
-        let written = write_output(rt, b"apply_tickets", &out[..length]);
-        if written {
-            return length;
-        }
+    if !all {
+        return None;
     }
-    0
+    let length = put_count(table, out);
+    let written = write_output(rt, b"apply_tickets", &out[..length]);
+    if !written {
+        return None;
+    }
+    Some(length)
 }
 
 fn main(rt: HostRuntime) {
-    let zero: Word = 0;
-    let mut table = [zero; MOST];
+    let mut table: [Word; MOST] = [0; MOST];
     let mut bytes = [0u8; CHUNK];
     let mut out = io::large_buffer();
     run_program(&rt, &mut table, &mut bytes, &mut out);

@@ -2,8 +2,6 @@
 // many of the checks accepted it. For a refused image it prints nothing.
 #![tactic(auto)]
 
-ghost use Rattle.std.specs.Prelude.{◌≤◌};
-
 use consistency::check;
 use image::{LONGEST, read};
 use streams::{STDIN, STDOUT};
@@ -12,26 +10,18 @@ use table::{CLASS, MOST, RESOURCE, Word, word_of};
 // How often the table is checked.
 const ROUNDS: u64 = 5000;
 
-// Whether a check accepts the table, as 1 or 0. The first word of a consistent table is stored each time, so
-// that no check can stand for the next.
-fn check_again(table: &mut [Word; MOST]) -> u64
-    ensures bound { result ≤ 1 }
-{
+// Whether a check accepts the table. The first word of a consistent table is stored each time, so that no check
+// can stand for the next.
+fn check_again(table: &mut [Word; MOST]) -> bool {
     table[0] = word_of(CLASS, RESOURCE, 0, 0);
-    let answer = check(table);
-    if answer == 0 {
-        return 1;
-    }
-    0
+    check(table).is_ok()
 }
 
 // How many of the checks accept the table.
 fn count_accepted(table: &mut [Word; MOST]) -> u64 {
-    let mut done = 0;
     let mut accepted = 0;
-    while done < ROUNDS {
-        accepted += check_again(table);
-        done += 1;
+    for _ in 0..ROUNDS {
+        accepted += check_again(table) as u64;
     }
     accepted
 }
@@ -42,10 +32,8 @@ fn main() {
     if LONGEST < length {
         return;
     }
-    let zero: Word = 0;
-    let mut table = [zero; MOST];
-    let answer = read(&mut table, &input[..length]);
-    if answer != 0 {
+    let mut table: [Word; MOST] = [0; MOST];
+    if read(&mut table, &input[..length]).is_err() {
         return;
     }
     let accepted = count_accepted(&mut table);

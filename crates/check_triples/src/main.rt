@@ -8,8 +8,8 @@ ghost use Rattle.rdfs.specs.Numbers.{product};
 ghost use Rattle.text.specs.Text.{Number, Puts};
 ghost use Rattle.triples.specs.ReadTriples.{read_triples_answer};
 
-use streams::{Filled, read_whole, text_buffer, write_output};
-use table::{MOST, Word};
+use streams::{read_whole, text_buffer, write_output};
+use table::{MOST, Word, answer_of};
 use text::put_number;
 use triples::read_triples;
 
@@ -22,14 +22,13 @@ fn put_answer(text: &[u8], out: &mut [u8]) -> usize
     ensures within { result ≤ length out.new }
 {
     let mut table: [Word; MOST] = [0; MOST];
-    let answer = read_triples(&mut table, text);
+    let answer = answer_of(read_triples(&mut table, text));
     put_number(out, 0, answer as u64, b'\n')
 }
 
 fn main(rt: HostRuntime) {
     let mut input = text_buffer();
-    let filled = read_whole(&rt, b"check_triples", &mut input);
-    let Filled::Read(count) = filled else {
+    let Some(count) = read_whole(&rt, b"check_triples", &mut input) else {
         return;
     };
     let mut out = [0u8; 4];

@@ -1,8 +1,8 @@
-// Lookups in a table that is laid out, and whether an insertion clashes, decided by them before anything is
+// Lookups among the facts of a table, and whether an insertion clashes, decided by them before anything is
 // put in: refusal 10.
 //
-// The functions serve the crates above. Each requires a table that is laid out, the number of its facts, and
-// ids up to the highest; of a kind `clashes` asks nothing. Nothing is written. The crate assumes nothing.
+// The functions serve the crates above. Each requires the facts of a table without its zeros, and ids up to
+// the highest; of a kind `clashes` asks nothing. Nothing is written. The crate assumes nothing.
 #![tactic(auto)]
 
 mod lookups;

@@ -19,6 +19,7 @@ use Rattle.rdfs.specs.Facts.{graph}
 use Rattle.rdfs.specs.Words.{laid_out}
 use Rattle.rdfs.specs.Refusals.{table_refusal}
 use Rattle.table.specs.Counted.{facts_of}
+use Rattle.table.specs.Refused.{answer_of}
 use Rattle.table.proofs.Promising.{Promise, promising}
 use Rattle.consistency.specs.Order.{rules_in_order, MetFirst, Answers}
 use Rattle.consistency.specs.contracts.check as check
@@ -27,7 +28,7 @@ use Rattle.consistency.specs.contracts.first_broken as first-broken
 
 module _ {M : Type 1} {𝓤 : Ura M} (𝓛 : Logic 𝓤) (mem : Memory → SProp 𝓤) (run : Routine → Fun 𝓤) where
   pub table_check_tied : check.clauses 𝓛 mem run
-      ≡ promising 𝓤 check.ended (λ κs a r e. r ≡ table_refusal product a.0.now 0)
+      ≡ promising 𝓤 check.ended (λ κs a r e. answer_of r ≡ table_refusal product a.0.now 0)
   table_check_tied = refl
 
   -- A table that is laid out and not too long.

@@ -1,5 +1,5 @@
 -- The rules in the paper's order, how many a graph meets before the first that it breaks, and which that is.
-use Rattle.std.specs.Prelude.{ℕ, suc, ◌≤◌, ◌<◌, List, [], ◌∷◌, get_or}
+use Rattle.std.specs.Prelude.{ℕ, suc, ◌≤◌, ◌<◌, List, [], ◌∷◌, get_or, Option, None, Some}
 use Rattle.rdfs.specs.Facts.{Graph}
 use Rattle.rdfs.specs.Rules.{
   Rule,
@@ -36,9 +36,8 @@ use Rattle.rdfs.specs.Rules.{
   e2,
 }
 use Rattle.rules.specs.RuleOf.{rule_of}
+use Rattle.rules.specs.declared.Rule as code
 use Rattle.consistency.specs.Printed.{place_of}
-use Rattle.consistency.specs.declared.Visited.{Visited}
-use Rattle.consistency.specs.declared.Visited.TheVariants.{AllMet, Broken}
 
 -- Fig. 3's rules 4 to 27 as printed, then H1 to H4, then E1 and E2.
 abbrev pub rules_in_order : List Rule
@@ -79,16 +78,16 @@ pub data FirstBroken (G : Graph) (r : Rule) : List Rule → Type 0 where
   here : {l : List Rule} → (Meets G r → ⊥) → FirstBroken G r (r ∷ l)
   later : {q : Rule} {l : List Rule} → Meets G q → FirstBroken G r l → FirstBroken G r (q ∷ l)
 
--- What an answer says of the rules of a list.
-abbrev pub Answers : Graph → List Rule → Visited → Type 0
-Answers G l AllMet = MeetsAll G l
-Answers G l (Broken q) = FirstBroken G (rule_of q) l
+-- What an answer says of the rules of a list: the first that is broken, or none.
+abbrev pub Answers : Graph → List Rule → Option code.Rule → Type 0
+Answers G l None = MeetsAll G l
+Answers G l (Some q) = FirstBroken G (rule_of q) l
 
 -- The rule at place i and all before it are met.
 abbrev pub MetThrough : Graph → ℕ → Type 0
 MetThrough G i = (j : ℕ) → j ≤ i → Meets G (rule_at rules_in_order j)
 
 -- A visit that found this got past place i: it met all rules, or the rule where it stopped stands after i.
-abbrev pub Past : Visited → ℕ → Type 0
-Past AllMet i = Unit {0}
-Past (Broken q) i = i < place_of (rule_of q)
+abbrev pub Past : Option code.Rule → ℕ → Type 0
+Past None i = Unit {0}
+Past (Some q) i = i < place_of (rule_of q)

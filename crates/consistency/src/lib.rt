@@ -15,24 +15,16 @@ ghost use Rattle.rdfs.specs.Facts.{graph};
 ghost use Rattle.rdfs.specs.Words.{laid_out};
 ghost use Rattle.rdfs.specs.Refusals.{table_refusal};
 ghost use Rattle.table.specs.Counted.{facts_of};
+ghost use Rattle.table.specs.Refused.{answer_of};
 ghost use Rattle.spans.specs.Spans.{FactWords};
 ghost use Rattle.spans.specs.Graphs.{graph_of};
 ghost use Rattle.consistency.specs.Order.{rules_in_order, MetFirst, MetIndexed, Answers};
 
 use holders::all_exclusive;
 pub use rules::Rule;
-use spans::{SPANS, fill_index};
-use table::{INCONSISTENT, Word, count_facts, layout_refusal};
+use spans::{SPANS, Spans};
+use table::{Refusal, Word, check_layout, count_facts};
 use visit::{INDEXED, RULES, rule_at, visit};
-
-// What a visit of all rules, one after another, finds.
-#[derive(Clone, Copy)]
-pub enum Visited {
-    // Each is met.
-    AllMet,
-    // The first that is broken.
-    Broken(Rule),
-}
 
 // How many of the rules before E2 are met before the first that is broken, by an index of spans that is gone
 // when it answers.
@@ -42,8 +34,7 @@ fn count_indexed(words: &[Word]) -> usize
     ensures answer { MetIndexed (graph_of words.now) result }
 {
     let mut index = [0u16; SPANS];
-    fill_index(words, &mut index);
-    visit(words, &index)
+    visit(&Spans::new(words, &mut index))
 }
 
 // How many rules, in the paper's order, a table meets before the first that it breaks; all if it breaks none.
@@ -64,31 +55,26 @@ pub fn count_met(table: &[Word]) -> usize
     met
 }
 
-// The first rule that a table breaks.
-pub fn first_broken(table: &[Word]) -> Visited
+// The first rule that a table breaks; none, if it meets all.
+pub fn first_broken(table: &[Word]) -> Option<Rule>
     requires layout { T (laid_out product 1 table.now) }
     requires size { length table.now ≤ product.most }
     ensures answer { Answers (graph (facts_of table.now)) rules_in_order result }
 {
     let met = count_met(table);
     if met < RULES {
-        let rule = rule_at(met);
-        return Visited::Broken(rule);
+        return Some(rule_at(met));
     }
-    Visited::AllMet
+    None
 }
 
-// The first of refusals 1, 2 and 3 whose condition holds, or 0: the table is laid out and consistent.
-pub fn check(table: &[Word]) -> u8
-    ensures answer { result ≡ table_refusal product table.now 0 }
+// The first of refusals 1, 2 and 3 whose condition holds; if none does, the table is laid out and consistent.
+pub fn check(table: &[Word]) -> Result<(), Refusal>
+    ensures answer { answer_of result ≡ table_refusal product table.now 0 }
 {
-    let answer = layout_refusal(table);
-    if answer != 0 {
-        return answer;
+    check_layout(table)?;
+    if count_met(table) < RULES {
+        return Err(Refusal::Inconsistent);
     }
-    let met = count_met(table);
-    if met < RULES {
-        return INCONSISTENT;
-    }
-    0
+    Ok(())
 }

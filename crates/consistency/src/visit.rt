@@ -1,12 +1,11 @@
 // The order of the rules, and the visit of all but E2 one by one. It gets past each exactly if it is met.
 ghost use Rattle.std.specs.Prelude.{◌≡◌, ◌<◌, length};
-ghost use Rattle.spans.specs.Spans.{Indexed};
 ghost use Rattle.spans.specs.Graphs.{graph_of};
 ghost use Rattle.rules.specs.RuleOf.{rule_of};
 ghost use Rattle.consistency.specs.Order.{rule_at, rules_in_order, MetIndexed};
 
 use rules::{Rule, meets};
-use table::Word;
+use spans::Spans;
 
 pub const RULES: usize = 30;
 // Those before E2, which are tested by the index of spans.
@@ -54,18 +53,15 @@ pub fn rule_at(place: usize) -> Rule
     ORDER[place]
 }
 
-// How many of the rules before E2 are met before the first that is broken; all, if none is.
-pub fn visit<'a>(table: &'a [Word], index: &'a [u16]) -> usize
-    requires words { Indexed table.now index.now }
-    ensures answer { MetIndexed (graph_of table.now) result }
+// How many of the rules before E2 are met before the first that is broken; all, if none is. A number, since
+// it goes across the C interface.
+pub fn visit(spans: &Spans) -> usize
+    ensures answer { MetIndexed (graph_of spans.now.table.now) result }
 {
-    let mut at = 0;
-    while at < INDEXED {
-        let rule = rule_at(at);
-        if !meets(table, index, rule) {
+    for at in 0..INDEXED {
+        if !meets(spans, rule_at(at)) {
             return at;
         }
-        at += 1;
     }
-    at
+    INDEXED
 }

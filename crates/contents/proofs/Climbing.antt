@@ -5,6 +5,7 @@ use mathlib.Core.Path.{◌≡◌, sym, ap, ◌∙◌}
 use mathlib.Core.Bool.{true, false}
 use mathlib.Core.List.{List, ◌∷◌, ◌++◌}
 use native.Mathlib.Omega.{arith}
+use Rattle.std.specs.Prelude.{Option, Some, None}
 use lib.Dec.{lit<}
 use Rattle.rdfs.specs.Numbers.{product}
 use Rattle.rdfs.specs.Lists.{concat_map}
@@ -15,8 +16,6 @@ use Rattle.table.proofs.LayoutWalks.{laid_on, laid_low, laid_no_fact, zeros_not}
 use Rattle.contents.specs.ImageForm.{Form, fact_size, kinds_after}
 use Rattle.contents.specs.Reading.{start_at, count_at, id_at, word_at, words_from, words_in, words_of}
 use Rattle.contents.specs.BodyRise.{laid_after, RisesTo}
-use Rattle.contents.specs.declared.bodies.Rise.{Rise}
-use Rattle.contents.specs.declared.bodies.Rise.TheVariants.{To, Broken}
 use Rattle.contents.proofs.Linking.{kinds_more, kinds_all, kinds_done}
 
 module _ (F : Form) (bytes : List ℕ) (k : ℕ) where
@@ -64,14 +63,14 @@ module _ (F : Form) (bytes : List ℕ) (k : ℕ) where
             ∙ ap (λ n. laid_out product (suc w) (words_from product F bytes k (count - (i + 1)) (p + n) ++ r)) (sym s));
       }
 
-      pub climb_low : w ≤ top → (r : List ℕ) → RisesTo last (words_from product F bytes k count from) r Broken
+      pub climb_low : w ≤ top → (r : List ℕ) → RisesTo last (words_from product F bytes k count from) r None
       climb_low u r = first r ∙ (laid_low (suc top) w (left ++ r) (omega arith) ∙ zeros_not (suc top) w (left ++ r) some)
 
       pub climb_no_fact : is_fact product w ≡ false → (r : List ℕ) → RisesTo last (words_from product F bytes k count from) r
-          Broken
+          None
       climb_no_fact t r = first r ∙ (laid_no_fact (suc top) w (left ++ r) t ∙ zeros_not (suc top) w (left ++ r) some)
 
-    pub climb_end : count ≤ i → (r : List ℕ) → RisesTo last (words_from product F bytes k count from) r (To top)
+    pub climb_end : count ≤ i → (r : List ℕ) → RisesTo last (words_from product F bytes k count from) r (Some top)
     climb_end h r = let none : count - i ≡ 0 =
         omega arith in c.rest r ∙ ap (λ n. laid_out product (suc top) (words_from product F bytes k n p ++ r)) none
 
@@ -89,7 +88,7 @@ climbed_start F bytes = record {
 }
 
 -- The body of the next kind, at the place and with the count that its entry gives.
-module _ {F : Form} {bytes : List ℕ} {done last : ℕ} (c : Climbed F bytes done last) (h : done < F.entries) (r : Rise)
+module _ {F : Form} {bytes : List ℕ} {done last : ℕ} (c : Climbed F bytes done last) (h : done < F.entries) (r : Option ℕ)
     (from count : ℕ) (e : from ≡ start_at F bytes (done + 1)) (d : count ≡ count_at F bytes (done + 1)) (f : (rest : List ℕ)
     → RisesTo last (words_from product F bytes (done + 1) count from) rest r) where
   abbrev others : List ℕ
@@ -103,10 +102,10 @@ module _ {F : Form} {bytes : List ℕ} {done last : ℕ} (c : Climbed F bytes do
       c.rest ∙ (ap (λ ks. laid_out product (suc last) (concat_map (words_in product F bytes) ks)) (kinds_more F.entries
       done h) ∙ (ap (λ l. laid_out product (suc last) (l ++ others)) same ∙ f others))
 
-  pub climbed_more : (w : ℕ) → r ≡ To w → Climbed F bytes (done + 1) w
+  pub climbed_more : (w : ℕ) → r ≡ Some w → Climbed F bytes (done + 1) w
   climbed_more w q = record { within = omega arith; rest = next ∙ ap (λ x. laid_after x others) q }
 
-  pub climbed_broken : r ≡ Broken → laid_out product 1 (words_of product F bytes) ≡ false
+  pub climbed_broken : r ≡ None → laid_out product 1 (words_of product F bytes) ≡ false
   climbed_broken q = next ∙ ap (λ x. laid_after x others) q
 
 pub climbed_end : {F : Form} {bytes : List ℕ} {done last : ℕ} → Climbed F bytes done last → F.entries ≤ done

@@ -22,7 +22,6 @@ use Rattle.contents.proofs.Grouped.{kinds_from}
 use Rattle.contents.proofs.ImageAgain.{body_placed}
 use Rattle.contents.proofs.ImagePlaces.{contents_entry}
 use Rattle.contents.proofs.Product.{well_contents}
-use Rattle.contents.proofs.ImageForms.{legible_given}
 
 or_none : (a b : Bool) → (a || b) ≡ false → (a ≡ false) × (b ≡ false)
 or_none false false e = (refl, refl)
@@ -42,21 +41,18 @@ module _ (F : Form) (bytes : List ℕ) (k : ℕ) where
 
   -- There is a body.
   pub record There : Type 0 where
-    pub form : Legible F
     pub here : bodiless product F bytes k ≡ false
     pub some : 1 ≤ k
     pub most : k ≤ F.entries
     pub right : Contents F bytes
 
-  pub there : F ≡ image_form bytes → (r : Bool) → r ≡ not (bodiless product F bytes k) → not r ≡ false → There
-  there own r e f =
-      let legible : Legible F = legible_given bytes F own in
+  pub there : Legible F → (r : Bool) → r ≡ not (bodiless product F bytes k) → not r ≡ false → There
+  there legible r e f =
       let here : bodiless product F bytes k ≡ false = not-true (bodiless product F bytes k) (sym e ∙ not-false r f) in
       let both = or_none (malformed product F bytes) (not (member (kinds F) k)) here in
       let i : k ∈ kinds F = member_in_lem (kinds F) k (subst T (sym (not-false (member (kinds F) k) both.1)) tt) in
       let b = kinds_from 0 F.entries k i in
       record {
-        form = legible;
         here = here;
         some = b.0;
         most = omega (arith, b.1);
@@ -64,7 +60,7 @@ module _ (F : Form) (bytes : List ℕ) (k : ℕ) where
       }
 
   pub there_entry : There → HasEntry F bytes k
-  there_entry h = contents_entry (record { form = h.form; right = h.right }) k h.some h.most
+  there_entry h = contents_entry h.right k h.some h.most
 
   -- Its size by its parts, and its end within the bytes.
   pub there_size : (size count : ℕ) → size ≡ fact_size F k → count ≡ count_at F bytes k

@@ -1,17 +1,7 @@
--- The forms that the code takes, and which of them it reads and writes.
+-- Which forms the code reads and writes.
 use Rattle.std.specs.Prelude.{ℕ, ◌+◌, ◌*◌, ◌^◌, ◌≤◌, ◌<◌}
 use Rattle.rdfs.specs.Numbers.{product, kind_count}
 use Rattle.contents.specs.ImageForm.{Form, Proper, byte_values, field_values, largest_fact, first_body}
-use Rattle.contents.specs.declared.form.Form as code
-
--- The form that a function is given.
-abbrev pub form_of : code.Form → Form
-form_of given = record {
-  edition = given.edition;
-  entries = given.entries;
-  id_size = given.id_size;
-  field_size = given.field_size;
-}
 
 -- The most bytes of a number that the code takes out of an image or puts into one.
 abbrev pub widest : ℕ

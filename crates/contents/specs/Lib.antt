@@ -1,5 +1,6 @@
 pub mod ImageForm
 pub mod Legible
+pub mod FormOf
 pub mod Image
 pub mod Reading
 pub mod Contents

@@ -10,11 +10,11 @@ ghost use Rattle.contents.specs.ImageForm.{
   entry_at,
   first_body,
 };
-ghost use Rattle.contents.specs.Legible.{form_of, fact_bytes, Legible};
+ghost use Rattle.contents.specs.Legible.{fact_bytes, Legible};
 
 use table::{KINDS, MOST, Word, arity_of};
 
-// The numbers of a form.
+// The numbers of a form whose images can be read.
 #[derive(Clone, Copy)]
 pub struct Form {
     // The edition.
@@ -25,6 +25,12 @@ pub struct Form {
     pub id_size: usize,
     // The bytes of a start, and of a count.
     pub field_size: usize,
+    pub ghost legible: { Legible (record {
+      edition = edition;
+      entries = entries;
+      id_size = id_size;
+      field_size = field_size;
+    }) },
 }
 
 // The product's form, which is written.
@@ -56,64 +62,61 @@ const LARGEST_FACT: usize = 3;
 
 pub const LONGEST: usize = FIRST_BODY + LARGEST_FACT * MOST;
 
-// The constants are the definitions' numbers.
-pub fn product_form() -> Form
-    ensures answer { form_of result ≡ form }
-{
-    FORM
-}
-
+// The constant is the definitions' number.
 pub fn longest_image() -> usize
     ensures answer { result ≡ first_body form + largest_fact form * product.most }
 {
     LONGEST
 }
 
-// The form that an image is read in, by the number of entries that it gives: ten, or the product's.
-pub fn form_of(image: &[u8]) -> Form
-    ensures answer { form_of result ≡ image_form image.now }
-{
-    if image.len() < HEADER {
-        return FORM;
+impl Form {
+    ghost use Rattle.contents.specs.FormOf.{form_of};
+
+    // The product's form. The constants are the definitions' numbers.
+    pub fn product() -> Form
+        ensures answer { form_of result ≡ form }
+    {
+        FORM
     }
-    if image[1] as Word == TEN_FORM.entries {
-        return TEN_FORM;
+
+    // The form that an image is read in, by the number of entries that it gives: ten, or the product's.
+    pub fn of(image: &[u8]) -> Form
+        ensures answer { form_of result ≡ image_form image.now }
+    {
+        if image.len() >= HEADER && image[1] as Word == TEN_FORM.entries {
+            return TEN_FORM;
+        }
+        FORM
     }
-    FORM
-}
 
-// The bytes of a fact of kind k.
-pub fn fact_size(form: Form, k: Word) -> usize
-    requires form { Legible (form_of form) }
-    ensures answer { result ≡ fact_size (form_of form) k }
-    ensures bound { result ≤ fact_bytes }
-{
-    let ids = arity_of(k) as usize;
-    ids * form.id_size
-}
+    // The bytes of a fact of kind k.
+    pub fn fact_size(self, k: Word) -> usize
+        ensures answer { result ≡ fact_size (form_of self) k }
+        ensures bound { result ≤ fact_bytes }
+    {
+        arity_of(k) as usize * self.id_size
+    }
 
-// The bytes of an entry.
-fn entry_size(form: Form) -> usize
-    requires form { Legible (form_of form) }
-    ensures answer { result ≡ entry_size (form_of form) }
-{
-    BEFORE_FIELDS + form.field_size + form.field_size
-}
+    // The bytes of an entry.
+    fn entry_size(self) -> usize
+        ensures answer { result ≡ entry_size (form_of self) }
+    {
+        BEFORE_FIELDS + self.field_size + self.field_size
+    }
 
-// Where the entry of kind k stands.
-pub fn entry_at(form: Form, k: Word) -> usize
-    requires form { Legible (form_of form) }
-    requires kind { (1 ≤ k) × (k ≤ (form_of form).entries) }
-    ensures answer { result ≡ entry_at (form_of form) k }
-{
-    let before = (k - 1) as usize;
-    HEADER + before * entry_size(form)
-}
+    // Where the entry of kind k stands.
+    pub fn entry_at(self, k: Word) -> usize
+        requires kind { (1 ≤ k) × (k ≤ (form_of self).entries) }
+        ensures answer { result ≡ entry_at (form_of self) k }
+    {
+        let before = (k - 1) as usize;
+        HEADER + before * self.entry_size()
+    }
 
-// Where the first body stands.
-pub fn first_body(form: Form) -> usize
-    requires form { Legible (form_of form) }
-    ensures answer { result ≡ first_body (form_of form) }
-{
-    HEADER + form.entries as usize * entry_size(form)
+    // Where the first body stands.
+    pub fn first_body(self) -> usize
+        ensures answer { result ≡ first_body (form_of self) }
+    {
+        HEADER + self.entries as usize * self.entry_size()
+    }
 }

@@ -17,9 +17,7 @@ mod form;
 use bodies::has_body;
 pub use bodies::{is_rising, word_at};
 pub use entries::{count_at, has_contents, start_at};
-pub use form::{
-    BEFORE_FIELDS, BYTE, FIRST_BODY, FORM, Form, LONGEST, entry_at, fact_size, first_body, form_of,
-};
+pub use form::{BEFORE_FIELDS, BYTE, FIRST_BODY, FORM, Form, LONGEST};
 use table::Word;
 
 // The body of a kind, as a part of the image. If the image is malformed, the number is no kind, or it is 11
@@ -29,15 +27,12 @@ pub fn body(image: &[u8], kind: u8) -> &[u8]
     ensures promise { BodyPromise image.entry kind result }
 {
     let k = kind as Word;
-    let form = form_of(image);
-    let there = has_body(form, image, k);
-    let end = image.len();
-    if !there {
+    let form = Form::of(image);
+    if !has_body(form, image, k) {
+        let end = image.len();
         return &image[end..end];
     }
     let from = start_at(form, image, k);
-    let size = fact_size(form, k);
-    let count = count_at(form, image, k);
-    let to = from + size * count;
+    let to = from + form.fact_size(k) * count_at(form, image, k);
     &image[from..to]
 }

@@ -1,9 +1,10 @@
 -- The search for the next word that the others lack: its invariant, with a law for each step. Assumes nothing.
-use Prim.Native.Nat.{ℕ, ◌+◌, ◌≤◌, ◌<◌}
+use Prim.Native.Nat.{ℕ, suc, ◌+◌, ◌≤◌, ◌<◌}
 use mathlib.Core.Path.{◌≡◌, refl, sym, subst, ap, ◌∙◌}
-use mathlib.Core.List.{List}
+use mathlib.Core.List.{List, ◌∷◌}
 use native.Mathlib.Numerals.{add-one}
-use lib.ListN.{length, get_or, drop}
+use lib.ListN.{length, get_or, drop, drop_of_length-le}
+use lib.Seq.{drop-length}
 use Rattle.rdfs.specs.Register.{newcomers}
 use Rattle.differences.specs.Besides.{Apart, NextBeside}
 use Rattle.differences.proofs.Newcomers.{left_within, left_end, left_found, left_same, left_past}
@@ -23,11 +24,15 @@ module _ {words others : List ℕ} {place past at passed : ℕ} (s : Searching w
       (subst (λ l. 0 < length l) s.same s.apart.some)
 
   -- A word below all others that are left, and one with none left: this is the next.
-  pub search_end : length others ≤ passed → NextBeside words others place past (record { place = at; past = passed })
-  search_end e = record {
-    within = search_within;
-    first = s.same ∙ left_end words others s.apart.ascending s.apart.others_ascending at passed search_within e;
-  }
+  pub search_end : length others ≤ passed → NextBeside words others place past (record { place = at; past = length others })
+  search_end e =
+      let all : drop passed others ≡ drop (length others) others =
+      drop_of_length-le others {i = passed} e ∙ sym (drop-length others) in
+      record {
+        within = search_within;
+        first = s.same ∙ (left_end words others s.apart.ascending s.apart.others_ascending at passed search_within e
+            ∙ ap (λ l. get_or words at 0 ∷ newcomers l (drop (suc at) words)) all);
+      }
 
   module _ (k : passed < length others) where
     pub search_found : get_or words at 0 < get_or others passed 0

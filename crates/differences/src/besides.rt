@@ -15,29 +15,24 @@ pub struct Next {
 }
 
 // The first word, from a place on, that the others from a place on lack.
-fn next_besides(words: &[Word], others: &[Word], place: usize, past: usize) -> Next
-    requires lists { Apart words.now others.now place past }
-    ensures answer { NextBeside words.now others.now place past result }
+fn next_besides(words: &[Word], others: &[Word], from: Next) -> Next
+    requires lists { Apart words.now others.now from.place from.past }
+    ensures answer { NextBeside words.now others.now from.place from.past result }
 {
-    let mut at = place;
-    let mut passed = past;
-    while passed < others.len() {
-        let word = words[at];
-        let other = others[passed];
+    let mut place = from.place;
+    for past in from.past..others.len() {
+        let word = words[place];
+        let other = others[past];
         if word < other {
-            return Next {
-                place: at,
-                past: passed,
-            };
+            return Next { place, past };
         }
         if word == other {
-            at += 1;
+            place += 1;
         }
-        passed += 1;
     }
     Next {
-        place: at,
-        past: passed,
+        place,
+        past: others.len(),
     }
 }
 
@@ -46,37 +41,36 @@ fn put_besides(words: &[Word], others: &[Word], run: &mut [Word])
     requires lists { Measured words.now others.now run.old }
     ensures words { run.new ≡ newcomers others.now words.now }
 {
-    let mut at = 0;
-    let mut place = 0;
-    let mut past = 0;
-    while at < run.len() {
-        let next = next_besides(words, others, place, past);
+    let mut from = Next { place: 0, past: 0 };
+    for slot in run.iter_mut() {
+        let next = next_besides(words, others, from);
         let found = next.place;
-        run[at] = words[found];
-        place = found + 1;
-        past = next.past;
-        at += 1;
+        *slot = words[found];
+        from = Next {
+            place: found + 1,
+            past: next.past,
+        };
     }
 }
 
-// Whether a run is the words that the others lack.
+// Whether a run is the words that the others lack. It walks as `put_besides` does, but stops at the first
+// difference: one walk with a closure would be no plainer, as the walk is a call and a step.
 fn is_besides(words: &[Word], others: &[Word], run: &[Word]) -> bool
     requires lists { Measured words.now others.now run.now }
     ensures answer { result ≡ same_list run.now (newcomers others.now
         words.now) }
 {
-    let mut at = 0;
-    let mut place = 0;
-    let mut past = 0;
-    while at < run.len() {
-        let next = next_besides(words, others, place, past);
+    let mut from = Next { place: 0, past: 0 };
+    for word in run {
+        let next = next_besides(words, others, from);
         let found = next.place;
-        if run[at] != words[found] {
+        if *word != words[found] {
             return false;
         }
-        place = found + 1;
-        past = next.past;
-        at += 1;
+        from = Next {
+            place: found + 1,
+            past: next.past,
+        };
     }
     true
 }

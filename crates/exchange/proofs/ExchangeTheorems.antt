@@ -7,6 +7,7 @@ use mathlib.Core.List.{List, [], ◌∷◌, ◌++◌}
 use native.Mathlib.Omega.{arith}
 use native.Mathlib.Decide.{ℕ_discrete}
 use lib.Dec.{T, eqb, ltb}
+use Rattle.std.proofs.Common.{Result}
 use lib.ListN.{length, take, drop}
 use borrow.Author.Tests.{le-ltb}
 use Rattle.rdfs.specs.Numbers.{product}
@@ -25,14 +26,15 @@ use Rattle.reading.proofs.ReadCall.{read_length}
 use Rattle.image.proofs.ImageTheorems.{read_writes}
 use Rattle.triples.specs.Lone.{is_lone}
 use Rattle.triples.specs.TextRead.{outside_profile, text_words}
-use Rattle.triples.specs.WriteTriples.{table_text, write_triples_answer, write_triples_length, write_triples_bytes}
+use Rattle.triples.specs.WriteTriples.{table_text, write_triples_answer, write_triples_length, write_triples_bytes, length_of}
 use Rattle.triples.specs.ReadTriples.{text_tests, read_triples_answer, read_triples_words}
-use Rattle.triples.specs.declared.Text.{Text}
+use Rattle.table.specs.Refused.{answer_of}
+use Rattle.table.specs.declared.refusals.Refusal.{Refusal}
 use Rattle.triples.proofs.WriteAnswer.{written_taken}
 use Rattle.triples.proofs.TriplesTheorems.{reads_as_complete}
 use Rattle.exchange.specs.ToText.{room, ToTextPromise}
-use Rattle.exchange.specs.ToImage.{to_image_answer, ToImagePromise}
-use Rattle.exchange.specs.declared.Imaged.{Imaged}
+use Rattle.exchange.specs.ToImage.{to_image_answer, imaged_answer, imaged_length, ToImagePromise}
+use Rattle.exchange.specs.declared.Rejected.{Rejected}
 use Rattle.exchange.proofs.Between.{refused_keeps, passed_leaves, read_table, read_text_table}
 
 -- Of two refusals in turn: 0 is the answer only if neither refuses.
@@ -51,7 +53,7 @@ in_turn l d a rest same = elim (ℕ_discrete (first_true l) 0) [
 ]
 
 -- Reading answers n, and writing what was read, the bytes D, answers a: refused, the size is 0 and the output as it was.
-refusal_keeps : (n a : ℕ) (D output : List ℕ) → (cond (eqb n 0) a n ≡ 0 → ⊥) → (size : ℕ) (left : List ℕ)
+pub refusal_keeps : (n a : ℕ) (D output : List ℕ) → (cond (eqb n 0) a n ≡ 0 → ⊥) → (size : ℕ) (left : List ℕ)
     → size ≡ cond (eqb n 0) (cond (eqb a 0) (length D) 0) 0
     → left ≡ cond (eqb n 0) (cond (eqb a 0) (D ++ drop (length D) output) output) output → (size ≡ 0) × (left ≡ output)
 refusal_keeps n a D output h size left long bytes = elim (ℕ_discrete n 0) [
@@ -67,12 +69,12 @@ refusal_keeps n a D output h size left long bytes = elim (ℕ_discrete n 0) [
   )
 ]
 
-module _ (image output : List ℕ) (text : Text) (out : List ℕ) (p : ToTextPromise image output text out) where
+module _ (image output : List ℕ) (text : Result ℕ Refusal) (out : List ℕ) (p : ToTextPromise image output text out) where
   abbrev t : List ℕ
   t = read_words room image
 
   -- The answer is the first of these refusals; 0 if there is none.
-  pub to_text_order : text.answer ≡ or_else (malformed product (image_form image) image) 12
+  pub to_text_order : answer_of text ≡ or_else (malformed product (image_form image) image) 12
       (or_else (ltb product.most (length (image_words image))) 11
       (or_else (inconsistent product (image_words image)) 3 (or_else (ltb (length output) (length (table_text t))) 13 0)))
   to_text_order =
@@ -83,17 +85,17 @@ module _ (image output : List ℕ) (text : Text) (out : List ℕ) (p : ToTextPro
       (λ z. table_passes product t (read_table image (read_answer room image) refl z refl) last)
 
   -- Refused, the length is 0 and every byte is as it was.
-  pub to_text_refusal_keeps : (text.answer ≡ 0 → ⊥) → (text.length ≡ 0) × (out ≡ output)
+  pub to_text_refusal_keeps : (answer_of text ≡ 0 → ⊥) → (length_of text ≡ 0) × (out ≡ output)
   to_text_refusal_keeps h =
       refusal_keeps (read_answer room image) (write_triples_answer t output) (table_text t) output (λ z. h (p.answer_is ∙ z))
-      text.length out p.length_is p.bytes_are
+      (length_of text) out p.length_is p.bytes_are
 
-  module _ (z : text.answer ≡ 0) where
+  module _ (z : answer_of text ≡ 0) where
     passed : (read_answer room image ≡ 0) × (write_triples_answer t output ≡ 0)
     passed = both_pass (read_answer room image) (write_triples_answer t output) (sym p.answer_is ∙ z)
 
     -- Accepted, the bytes cut to the length answered are the text of the image's table.
-    pub to_text_is : take text.length out ≡ table_text t
+    pub to_text_is : take (length_of text) out ≡ table_text t
     to_text_is =
         ap (λ n. take n out) (p.length_is ∙ passed_leaves (read_answer room image) (write_triples_length t output) 0 passed.0)
         ∙ (ap (take (write_triples_length t output)) (p.bytes_are
@@ -102,9 +104,9 @@ module _ (image output : List ℕ) (text : Text) (out : List ℕ) (p : ToTextPro
 
     -- Turned into an image again, into any output that is long enough, it is the image that writing gives for the table, if no
     -- literal is lone.
-    pub text_image_written : any (is_lone (facts product t)) (facts product t) ≡ false → (output' : List ℕ) (imaged : Imaged)
-        (out' : List ℕ) → ToImagePromise (take text.length out) output' imaged out' → length (table_image t) ≤ length output'
-        → (imaged.answer ≡ 0) × (take imaged.length out' ≡ table_image t)
+    pub text_image_written : any (is_lone (facts product t)) (facts product t) ≡ false → (output' : List ℕ) (imaged : Result ℕ Rejected)
+        (out' : List ℕ) → ToImagePromise (take (length_of text) out) output' imaged out' → length (table_image t) ≤ length output'
+        → (imaged_answer imaged ≡ 0) × (take (imaged_length imaged) out' ≡ table_image t)
     text_image_written lone output' imaged out' q short =
         let table : Table product t = read_table image (read_answer room image) refl passed.0 refl in
         let back = reads_as_complete room (table_text t) t record {
@@ -114,14 +116,14 @@ module _ (image output : List ℕ) (text : Text) (out : List ℕ) (p : ToTextPro
           only = λ l i. i;
           each = λ l i. i;
         } in
-        let again : read_triples_answer room (take text.length out) ≡ 0 = ap (read_triples_answer room) to_text_is ∙ back.0 in
-        let words : read_triples_words room (take text.length out) ≡ t = ap (read_triples_words room) to_text_is ∙ back.1 in
+        let again : read_triples_answer room (take (length_of text) out) ≡ 0 = ap (read_triples_answer room) to_text_is ∙ back.0 in
+        let words : read_triples_words room (take (length_of text) out) ≡ t = ap (read_triples_words room) to_text_is ∙ back.1 in
         let done : write_answer t output' ≡ 0 =
         table_passes product t table (or_else (ltb (length output') (length (table_image t))) 13 0)
         ∙ ap (λ b. or_else b 13 0) (le-ltb (length output') (length (table_image t)) short) in
-        let n : ℕ = read_triples_answer room (take text.length out) in
-        let v : List ℕ = read_triples_words room (take text.length out) in
-        let long : imaged.length ≡ write_length t output' =
+        let n : ℕ = read_triples_answer room (take (length_of text) out) in
+        let v : List ℕ = read_triples_words room (take (length_of text) out) in
+        let long : imaged_length imaged ≡ write_length t output' =
         q.length_is ∙ (passed_leaves n (write_length v output') 0 again ∙ ap (λ w. write_length w output') words) in
         let bytes : out' ≡ write_bytes t output' =
         q.bytes_are ∙ (passed_leaves n (write_bytes v output') output' again ∙ ap (λ w. write_bytes w output') words) in (
@@ -131,8 +133,8 @@ module _ (image output : List ℕ) (text : Text) (out : List ℕ) (p : ToTextPro
 
     -- That is the image it came from, if this has other than ten entries.
     pub text_image_again : any (is_lone (facts product t)) (facts product t) ≡ false → (TenEntries image → ⊥) → (output' : List ℕ)
-        (imaged : Imaged) (out' : List ℕ) → ToImagePromise (take text.length out) output' imaged out'
-        → length image ≤ length output' → (imaged.answer ≡ 0) × (take imaged.length out' ≡ image)
+        (imaged : Result ℕ Rejected) (out' : List ℕ) → ToImagePromise (take (length_of text) out) output' imaged out'
+        → length image ≤ length output' → (imaged_answer imaged ≡ 0) × (take (imaged_length imaged) out' ≡ image)
     text_image_again lone others output' imaged out' q fits =
         let same : image ≡ table_image t = (read_writes room image (sym passed.0) others).0 in
         let done = text_image_written lone output' imaged out' q (subst (λ l. length l ≤ length output') same fits) in
@@ -164,8 +166,8 @@ module _ (text output : List ℕ) where
       never false q = omega (arith, q)
 
   -- The answer is the first of these refusals; 0 if there is none.
-  pub to_image_order : (imaged : Imaged) (out : List ℕ) → ToImagePromise text output imaged out
-      → imaged.answer ≡ or_else (outside_profile product.top text) 15
+  pub to_image_order : (imaged : Result ℕ Rejected) (out : List ℕ) → ToImagePromise text output imaged out
+      → imaged_answer imaged ≡ or_else (outside_profile product.top text) 15
       (or_else (ltb product.most (length (text_words product text))) 11
       (or_else (inconsistent product (text_words product text)) 3 (or_else (ltb (length output) (length (table_image v))) 13 0)))
   to_image_order imaged out p =
@@ -174,8 +176,8 @@ module _ (text output : List ℕ) where
       p.answer_is ∙ in_turn l tt (write_answer v output) last read_written
 
   -- Refused, the image's length is 0 and every byte is as it was.
-  pub to_image_refusal_keeps : (imaged : Imaged) (out : List ℕ) → ToImagePromise text output imaged out
-      → (imaged.answer ≡ 0 → ⊥) → (imaged.length ≡ 0) × (out ≡ output)
+  pub to_image_refusal_keeps : (imaged : Result ℕ Rejected) (out : List ℕ) → ToImagePromise text output imaged out
+      → (imaged_answer imaged ≡ 0 → ⊥) → (imaged_length imaged ≡ 0) × (out ≡ output)
   to_image_refusal_keeps imaged out p h =
       refusal_keeps (read_triples_answer room text) (write_answer v output) (table_image v) output (λ z. h (p.answer_is ∙ z))
-      imaged.length out p.length_is p.bytes_are
+      (imaged_length imaged) out p.length_is p.bytes_are

@@ -6,6 +6,8 @@ use mathlib.Core.List.{List, [], ◌++◌}
 use native.Mathlib.Omega.{arith}
 use native.Mathlib.Decide.{ℕ_discrete}
 use lib.Dec.{eqb, ltb}
+use Rattle.std.proofs.Common.{Result, Ok, Err}
+use Rattle.std.specs.Result.{result_unwrap_or}
 use lib.ListN.{length, take, drop, length-append}
 use lib.Seq.{take_at}
 use borrow.Author.Tests.{le-ltb}
@@ -19,14 +21,14 @@ use Rattle.writing.specs.WritePromise.{table_image, write_answer}
 use Rattle.writing.proofs.WriteCall.{table_writing}
 use Rattle.writing.proofs.Measuring.{image_small}
 use Rattle.reading.specs.ReadPromise.{read_answer, read_words}
-use Rattle.triples.specs.WriteTriples.{table_text, write_triples_answer, write_triples_length}
+use Rattle.triples.specs.WriteTriples.{table_text, write_triples_answer, write_triples_length, length_of}
 use Rattle.triples.specs.ReadTriples.{read_triples_answer, read_triples_words}
-use Rattle.triples.specs.declared.Text.{Text}
+use Rattle.table.specs.declared.refusals.Refusal.{Refusal}
 use Rattle.triples.proofs.TriplesTheorems.{text_short}
 use Rattle.exchange.specs.ToText.{room, to_text_length, ToTextPromise}
-use Rattle.exchange.specs.ToImage.{ToImagePromise}
+use Rattle.exchange.specs.ToImage.{imaged_length, ToImagePromise}
 use Rattle.exchange.specs.Printed.{longest_text, longest_image, text_printed, image_printed}
-use Rattle.exchange.specs.declared.Imaged.{Imaged}
+use Rattle.exchange.specs.declared.Rejected.{Rejected}
 use Rattle.exchange.proofs.Between.{refused_keeps, passed_leaves, read_table, read_text_table}
 
 -- Bytes printed: they stand at the start of others.
@@ -96,11 +98,11 @@ module _ (image output : List ℕ) (fits : longest_text ≤ length output) where
         short,
       )
 
-  pub text_put : (text : Text) (left : List ℕ) → ToTextPromise image output text left
-      → Put text.length left (text_printed image)
+  pub text_put : (text : Result ℕ Refusal) (left : List ℕ) → ToTextPromise image output text left
+      → Put (length_of text) left (text_printed image)
   text_put text left p =
-      printed_put (read_answer room image) (write_triples_answer t output) (table_text t) output text_accepted text.length left
-      p.length_is p.bytes_are
+      printed_put (read_answer room image) (write_triples_answer t output) (table_text t) output text_accepted (length_of text)
+      left p.length_is p.bytes_are
 
 module _ (text output : List ℕ) (fits : longest_image ≤ length output) where
   abbrev v : List ℕ
@@ -116,8 +118,21 @@ module _ (text output : List ℕ) (fits : longest_image ≤ length output) where
         short,
       )
 
-  pub image_put : (imaged : Imaged) (left : List ℕ) → ToImagePromise text output imaged left
-      → Put imaged.length left (image_printed text)
+  pub image_put : (imaged : Result ℕ Rejected) (left : List ℕ) → ToImagePromise text output imaged left
+      → Put (imaged_length imaged) left (image_printed text)
   image_put imaged left p =
-      printed_put (read_triples_answer room text) (write_answer v output) (table_image v) output image_accepted imaged.length left
+      printed_put (read_triples_answer room text) (write_answer v output) (table_image v) output image_accepted
+      (imaged_length imaged) left
       p.length_is p.bytes_are
+
+-- What `unwrap_or` makes of an answer is its length.
+pub put_as : {size other : ℕ} {left printed : List ℕ} → other ≡ size → Put size left printed → Put other left printed
+put_as {left = left} {printed = printed} e p = subst (λ n. Put n left printed) (sym e) p
+
+pub text_told : (text : Result ℕ Refusal) → result_unwrap_or text 0 ≡ length_of text
+text_told (Ok length) = refl
+text_told (Err refusal) = refl
+
+pub image_told : (imaged : Result ℕ Rejected) → result_unwrap_or imaged 0 ≡ imaged_length imaged
+image_told (Ok length) = refl
+image_told (Err rejected) = refl

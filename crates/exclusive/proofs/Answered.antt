@@ -4,19 +4,16 @@ use mathlib.Core.Path.{◌≡◌, refl, sym, ◌∙◌}
 use mathlib.Core.Bool.{Bool, true, false}
 use mathlib.Core.Logic.{inl, inr, ⊎_elim}
 use mathlib.Core.List.{List}
-use native.Mathlib.Omega.{arith}
 use lib.Dec.{T}
-use Rattle.rdfs.specs.Numbers.{product}
+use Rattle.std.specs.Prelude.{Option}
+use Rattle.std.proofs.lemmas.Option.{same_Some}
 use Rattle.rdfs.specs.Lists.{◌∈◌}
 use Rattle.rdfs.specs.Facts.{Fact, pi, excl}
 use Rattle.rdfs.specs.Clashes.{two_holders}
 use Rattle.rdfs.specs.Lookups.{values_shared, value_taken}
 use Rattle.rdfs.proofs.Lists.Tests.{tests_as}
-use Rattle.rdfs.proofs.Words.Allowed.{fields}
-use Rattle.rdfs.proofs.Words.LaidOut.{laid_allowed}
 use Rattle.rdfs.proofs.Consistency.Holders.{tests_two_holders}
 use Rattle.table.specs.Answers.{Decides}
-use Rattle.table.specs.Counted.{Counted, Id, facts_of}
 use Rattle.table.proofs.TestAnswers.{is_true, is_false, decides_tests}
 use Rattle.flags.specs.Flags.{Says}
 use Rattle.exclusive.specs.Above.{exclusive_above}
@@ -52,32 +49,26 @@ module _ (K : List Fact) where
   )))
 
   -- A value has one holder.
-  not_two : {H : List ℕ} (p : ℕ) → Holders H (λ x y. pi x y p ∈ K) → T (two_holders K p) → ⊥
+  not_two : {H : List (Option ℕ)} (p : ℕ) → Holders H (λ x y. pi x y p ∈ K) → T (two_holders K p) → ⊥
   not_two p h t =
       let two = (tests_two_holders K p).sound t in
-      two.other (sym (h.complete two.one two.value two.first) ∙ h.complete two.another two.value two.second)
+      two.other (same_Some two.one two.another
+      (sym (h.complete two.one two.value two.first) ∙ h.complete two.another two.value two.second))
 
-  pub filled_two : (r : Bool) {H : List ℕ} (p : ℕ) → Filled r K p H → r ≡ two_holders K p
+  pub filled_two : (r : Bool) {H : List (Option ℕ)} (p : ℕ) → Filled r K p H → r ≡ two_holders K p
   filled_two true p f = sym (is_true (f.two refl))
   filled_two false p f = sym (is_false (not_two p (f.one refl)))
 
-module _ {t : List ℕ} {n : ℕ} {flags : List Bool} {H : List ℕ} (q : Counted t n) where
-  -- b is held by a.
-  pub taken_held : (r : Bool) (a b c : ℕ) → Id a → Says flags (exclusive_above (facts_of t) c)
-      → Holders H (λ x y. (a ≡ x) × (b ≡ y)) → Decides r (HeldOtherwise (facts_of t) flags H)
-      → r ≡ value_taken (facts_of t) a b c
-  taken_held r a b c l s h d = decides_tests r (value_taken (facts_of t) a b c) d (tests_as (taken_met (facts_of t) a b c)
-      (met_otherwise s h (λ x y e. omega (arith, l, e.0))) (otherwise_met s h))
+  module _ {flags : List Bool} {H : List (Option ℕ)} where
+    -- b is held by a.
+    pub taken_held : (r : Bool) (a b c : ℕ) → Says flags (exclusive_above K c) → Holders H (λ x y. (a ≡ x) × (b ≡ y))
+        → Decides r (HeldOtherwise K flags H) → r ≡ value_taken K a b c
+    taken_held r a b c s h d = decides_tests r (value_taken K a b c) d (tests_as (taken_met K a b c)
+        (met_otherwise s h) (otherwise_met s h))
 
-  -- The values of a are held by one each.
-  pub shared_held : (r : Bool) (a b : ℕ) → (x : ℕ) × T (exclusive_above (facts_of t) b x)
-      → Says flags (exclusive_above (facts_of t) b)
-      → Holders H (λ x y. pi x y a ∈ facts_of t) → Decides r (HeldOtherwise (facts_of t) flags H)
-      → r ≡ values_shared (facts_of t) a b
-  shared_held r a b some s h d = decides_tests r (values_shared (facts_of t) a b) d (tests_as (shared_met (facts_of t) a b)
-      (λ m. ⊎_elim (λ two. absurd (not_two (facts_of t) a h ((tests_two_holders (facts_of t) a).complete two)))
-      (met_otherwise s h (λ x y e. omega (
-        arith,
-        (fields product.top (pi x y a) (laid_allowed product t q.laid (pi x y a) e)).one,
-      ))) m.1)
-      (λ o. ((some.0, (tests_above (facts_of t) b some.0).sound some.1), inr (otherwise_met s h o))))
+    -- The values of a are held by one each.
+    pub shared_held : (r : Bool) (a b : ℕ) → (x : ℕ) × T (exclusive_above K b x) → Says flags (exclusive_above K b)
+        → Holders H (λ x y. pi x y a ∈ K) → Decides r (HeldOtherwise K flags H) → r ≡ values_shared K a b
+    shared_held r a b some s h d = decides_tests r (values_shared K a b) d (tests_as (shared_met K a b)
+        (λ m. ⊎_elim (λ two. absurd (not_two a h ((tests_two_holders K a).complete two))) (met_otherwise s h) m.1)
+        (λ o. ((some.0, (tests_above K b some.0).sound some.1), inr (otherwise_met s h o))))

@@ -1,10 +1,10 @@
 -- What the passes find, as the definitions have it: a value taken, values shared. Assumes nothing.
-use Prim.Native.Nat.{ℕ, ◌<◌}
-use mathlib.Core.Path.{◌≡◌, refl, sym, subst, ◌∙◌}
+use Prim.Native.Nat.{ℕ}
+use mathlib.Core.Path.{◌≡◌, refl, sym, subst}
 use mathlib.Core.Bool.{Bool}
 use mathlib.Core.Logic.{◌⊎◌, inl, inr, ⊎_elim}
 use mathlib.Core.List.{List}
-use native.Mathlib.Omega.{arith}
+use Rattle.std.specs.Prelude.{Option}
 use Rattle.rdfs.specs.Lists.{◌∈◌}
 use Rattle.rdfs.specs.Facts.{Fact, Graph, graph, pi}
 use Rattle.rdfs.specs.Lookups.{values_shared, value_taken}
@@ -13,33 +13,33 @@ use Rattle.rdfs.proofs.Consistency.Holders.{HeldByOther, TwoHolders}
 use Rattle.rdfs.proofs.Clash.SharedValues.{ExclusiveOver, tests_taken, tests_shared}
 use Rattle.flags.specs.Flags.{Says}
 use Rattle.exclusive.specs.Above.{exclusive_above}
-use Rattle.exclusive.specs.Holders.{nobody, holder, Holders, HeldOtherwise}
+use Rattle.exclusive.specs.Holders.{holder, Other, Holders, HeldOtherwise}
 use Rattle.exclusive.proofs.AboveFlags.{says_above}
+use Rattle.exclusive.proofs.HolderLaws.{other_held}
 
 -- A value that one holds another has through an exclusive property at p or over it.
 abbrev pub Met : Graph → ℕ → (ℕ → ℕ → Type 0) → Type 0
 Met G p Holds = (g : ℕ) × ExclusiveOver G p g × ((x : ℕ) × (y : ℕ) × Holds x y × HeldByOther G x y g)
 
 -- It is what the pass over the values finds.
-module _ {K : List Fact} {p : ℕ} {Holds : ℕ → ℕ → Type 0} {flags : List Bool} {H : List ℕ} (s : Says flags (exclusive_above K p))
-    (h : Holders H Holds) where
+module _ {K : List Fact} {p : ℕ} {Holds : ℕ → ℕ → Type 0} {flags : List Bool} {H : List (Option ℕ)}
+    (s : Says flags (exclusive_above K p)) (h : Holders H Holds) where
   pub otherwise_met : HeldOtherwise K flags H → Met (graph K) p Holds
-  otherwise_met q = (
+  otherwise_met q = let held = other_held (holder H q.value) q.who q.other in (
     q.through,
     (says_above K p s q.through).sound q.watched,
-    (holder H q.value, q.value, h.sound q.value q.other.0, (q.who, q.stands, λ e. q.other.1 (sym e))),
+    (held.0, q.value, h.sound held.0 q.value held.1, (q.who, q.stands, λ e. held.2 (sym e))),
   )
 
-  pub met_otherwise : ((x y : ℕ) → Holds x y → x < nobody) → Met (graph K) p Holds → HeldOtherwise K flags H
-  met_otherwise some (g, over, (x, y, held, (w, stands, other))) =
-      let is_x : holder H y ≡ x = h.complete x y held in
+  pub met_otherwise : Met (graph K) p Holds → HeldOtherwise K flags H
+  met_otherwise (g, over, (x, y, held, (w, stands, other))) =
       record {
         who = w;
         value = y;
         through = g;
         stands = stands;
         watched = (says_above K p s g).complete over;
-        other = ((λ e. omega (arith, is_x, e, some x y held)), (λ e. other (sym e ∙ is_x)));
+        other = subst (λ o. Other o w) (sym (h.complete x y held)) (λ e. other (sym e));
       }
 
 module _ (K : List Fact) where

@@ -1,80 +1,62 @@
 // The exclusive properties at one or over it.
 ghost use Rattle.std.specs.Prelude.{◌≡◌, false, [], ◌∷◌, ℕ, ◌<◌, T};
 ghost use Rattle.rdfs.specs.Numbers.{arity};
-ghost use Rattle.rdfs.specs.Lists.{◌∈◌};
+ghost use Rattle.rdfs.specs.Lists.{◌∈◌, filter};
 ghost use Rattle.rdfs.specs.Facts.{excl};
 ghost use Rattle.rdfs.specs.Deletion.{under};
 ghost use Rattle.table.specs.Answers.{Decides};
-ghost use Rattle.table.specs.Counted.{Counted, facts_of};
+ghost use Rattle.table.specs.Counted.{Full, facts_of};
 ghost use Rattle.flags.specs.Flags.{Says};
 ghost use Rattle.exclusive.specs.Looked.{Looked};
-ghost use Rattle.exclusive.specs.Above.{exclusive_above, Unflagged, KindWords};
+ghost use Rattle.exclusive.specs.Above.{exclusive_above, of_kind, Unflagged};
 
-use table::{
-    EXCLUSIVE, SUBPROPERTY, Word, count_below, first_of, has_fact, kind_of, place, word_of,
-};
+use flags::words_within;
+use table::{EXCLUSIVE, SUBPROPERTY, Word, first_of, has_fact, kind_of, place, word_of};
 
-// The places of some words.
-#[derive(Clone, Copy)]
-pub struct Stretch {
-    pub from: usize,
-    pub to: usize,
-}
-
-// Where the words of kind k stand.
-pub fn words_of(table: &[Word], count: usize, k: Word) -> Stretch
-    requires table { Counted table.now count }
+// The words of kind k: they stand together.
+pub fn words_of(facts: &[Word], k: Word) -> &[Word]
+    requires facts { Full facts.now }
     requires kind { k < 15 }
-    ensures places { KindWords table.now count k result.from result.to }
+    ensures words { result.now ≡ filter (of_kind k) facts.now }
 {
-    let from = count_below(table, count, word_of(k, 0, 0, 0));
-    let to = count_below(table, count, word_of(k + 1, 0, 0, 0));
-    Stretch { from: from, to: to }
+    let low = word_of(k, 0, 0, 0);
+    let high = word_of(k + 1, 0, 0, 0);
+    words_within(facts, low, high)
 }
 
 // There may be an exclusive property. Their words are the last of a table.
-pub fn has_exclusive(table: &[Word], count: usize) -> bool
-    requires table { Counted table.now count }
-    ensures none { result ≡ false → (x : ℕ) → excl x ∈ facts_of table.now → ⊥ }
+pub fn has_exclusive(facts: &[Word]) -> bool
+    requires facts { Full facts.now }
+    ensures none { result ≡ false → (x : ℕ) → excl x ∈ facts_of facts.now → ⊥ }
 {
-    if 0 < count {
-        let last = table[count - 1];
-        if kind_of(last) == EXCLUSIVE {
-            return true;
-        }
+    match facts.last() {
+        Some(word) => kind_of(*word) == EXCLUSIVE,
+        None => false,
     }
-    false
 }
 
 // x is b, or below b by a link of kind k.
-pub fn is_under(table: &[Word], count: usize, k: Word, b: Word, x: Word) -> bool
-    requires table { Looked table.now count (b ∷ x ∷ []) }
+pub fn is_under(facts: &[Word], k: Word, b: Word, x: Word) -> bool
+    requires facts { Looked facts.now (b ∷ x ∷ []) }
     requires kind { arity k ≡ 2 }
-    ensures answer { result ≡ under (facts_of table.now) k b x }
+    ensures answer { result ≡ under (facts_of facts.now) k b x }
 {
-    if x == b {
-        return true;
-    }
-    has_fact(table, count, k, x, b, 0)
+    x == b || has_fact(facts, k, x, b, 0)
 }
 
 // Flags the exclusive properties at p and over it; answers whether there are any.
-pub fn flag_exclusive<'a>(table: &'a [Word], count: usize, p: Word, flags: &mut [bool]) -> bool
-    requires table { Unflagged table.now count p flags.old }
-    ensures flags { Says flags.new (exclusive_above (facts_of table.now) p) }
-    ensures answer { Decides result ((x : ℕ) × T (exclusive_above (facts_of table.now) p x)) }
+pub fn flag_exclusive<'a>(facts: &'a [Word], p: Word, flags: &mut [bool]) -> bool
+    requires facts { Unflagged facts.now p flags.old }
+    ensures flags { Says flags.new (exclusive_above (facts_of facts.now) p) }
+    ensures answer { Decides result ((x : ℕ) × T (exclusive_above (facts_of facts.now) p x)) }
 {
     let mut some = false;
-    let words = words_of(table, count, EXCLUSIVE);
-    let mut at = words.from;
-    while at < words.to {
-        let x = first_of(table[at]);
-        let above = is_under(table, count, SUBPROPERTY, x, p);
-        if above {
+    for word in words_of(facts, EXCLUSIVE) {
+        let x = first_of(*word);
+        if is_under(facts, SUBPROPERTY, x, p) {
             flags[place(x)] = true;
             some = true;
         }
-        at += 1;
     }
     some
 }

@@ -2,72 +2,59 @@
 ghost use Rattle.std.specs.Prelude.{◌<◌, length};
 ghost use Rattle.rdfs.specs.Numbers.{product};
 ghost use Rattle.table.specs.Answers.{Decides};
-ghost use Rattle.table.specs.Counted.{Counted, facts_of};
+ghost use Rattle.table.specs.Counted.{Full, facts_of};
 ghost use Rattle.flags.specs.Flags.{Whole};
 ghost use Rattle.exclusive.specs.Holders.{Other, Unheld, Filled, HeldOtherwise};
 
 use crate::above::words_of;
-use table::{BASE, VALUE, Word, first_of, place, second_of, third_of};
+use table::{VALUE, Word, first_of, place, second_of, third_of};
 
-// No id.
-pub const NOBODY: Word = BASE;
+// The individual that holds a value, if one does: an id in a byte.
+pub type Holder = Option<u8>;
 
 // The holder is somebody, and not x.
-fn is_other(holder: Word, x: Word) -> bool
+fn is_other(holder: Holder, x: Word) -> bool
     ensures answer { Decides result (Other holder x) }
 {
-    if holder == NOBODY {
-        return false;
+    match holder {
+        Some(held) => Word::from(held) != x,
+        None => false,
     }
-    if holder == x {
-        return false;
-    }
-    true
 }
 
 // Notes who holds the values of p; answers whether one of them has two holders.
-pub fn fill_holders<'a>(table: &'a [Word], count: usize, p: Word, holders: &mut [Word]) -> bool
-    requires table { Counted table.now count }
+pub fn fill_holders<'a>(facts: &'a [Word], p: Word, holders: &mut [Holder]) -> bool
+    requires facts { Full facts.now }
     requires holders { Unheld holders.old }
-    ensures answer { Filled result (facts_of table.now) p holders.new }
+    ensures answer { Filled result (facts_of facts.now) p holders.new }
 {
-    let words = words_of(table, count, VALUE);
-    let mut at = words.from;
-    while at < words.to {
-        let word = table[at];
-        if third_of(word) == p {
-            let x = first_of(word);
-            let y = place(second_of(word));
-            let other = is_other(holders[y], x);
-            if other {
+    for word in words_of(facts, VALUE) {
+        if third_of(*word) == p {
+            let x = first_of(*word);
+            let y = place(second_of(*word));
+            if is_other(holders[y], x) {
                 return true;
             }
-            holders[y] = x;
+            holders[y] = Some(x as u8);
         }
-        at += 1;
     }
     false
 }
 
 // A value through a flagged property has another holder than the one that is noted.
-pub fn is_held<'a>(table: &'a [Word], count: usize, flags: &'a [bool], holders: &'a [Word]) -> bool
-    requires table { Counted table.now count }
+pub fn is_held<'a>(facts: &'a [Word], flags: &'a [bool], holders: &'a [Holder]) -> bool
+    requires facts { Full facts.now }
     requires ids { Whole flags.now × (product.top < length holders.now) }
-    ensures answer { Decides result (HeldOtherwise (facts_of table.now) flags.now
+    ensures answer { Decides result (HeldOtherwise (facts_of facts.now) flags.now
         holders.now) }
 {
-    let words = words_of(table, count, VALUE);
-    let mut at = words.from;
-    while at < words.to {
-        let word = table[at];
-        if flags[place(third_of(word))] {
-            let holder = holders[place(second_of(word))];
-            let other = is_other(holder, first_of(word));
-            if other {
+    for word in words_of(facts, VALUE) {
+        if flags[place(third_of(*word))] {
+            let holder = holders[place(second_of(*word))];
+            if is_other(holder, first_of(*word)) {
                 return true;
             }
         }
-        at += 1;
     }
     false
 }

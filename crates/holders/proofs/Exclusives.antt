@@ -1,27 +1,31 @@
 -- The exclusive properties, one after another, and rule E2 by the places of words. Assumes nothing.
 use Prim.Native.Nat.{ℕ, ◌+◌, ◌-◌, ◌≤◌, ◌<◌}
 use mathlib.Core.Path.{◌≡◌, sym, ap, subst, ◌∙◌}
-use mathlib.Core.Logic.{◌⊎◌, inl, inr}
+use mathlib.Core.Logic.{◌⊎◌, inl, inr, ⊎_elim}
 use mathlib.Core.List.{List}
+use native.Mathlib.Nat.{eq-or-lt_of_le}
 use native.Mathlib.Omega.{arith}
 use lib.Dec.{lit≤}
 use lib.ListN.{length}
 use Rattle.rdfs.specs.Numbers.{kind_count, arity}
 use Rattle.rdfs.specs.Rules.{Meets, e2}
-use Rattle.table.specs.Parts.{kind_of, first_of, second_of, third_of, word_of}
+use Rattle.table.specs.Parts.{kind_of, first_of, second_of, third_of}
 use Rattle.table.proofs.Arity.{shaped_within}
-use Rattle.spans.specs.Spans.{id_count, at, FactWords, Below}
+use Rattle.spans.specs.Spans.{id_count, at, FactWords}
+use Rattle.spans.specs.Passes.{OfKind}
 use Rattle.spans.specs.Graphs.{Stands, graph_of}
 use Rattle.spans.proofs.SpanPlaces.{compare, words_ascend}
-use Rattle.spans.proofs.Passed.{Passed, passed_none, passed_more, word_ids, each_fact, fact_each, fact_each_one}
+use Rattle.spans.proofs.KindWords.{each_of}
+use Rattle.spans.proofs.Passed.{word_ids, each_fact, fact_each, fact_each_one}
 use Rattle.holders.specs.Values.{ValueAt, HeldOnce, AllHeldOnce, HasExclusive}
 use Rattle.holders.specs.Seen.{stamp_of, StampedUpTo}
 
 -- The exclusive properties before place i are gone through, and no stamp is above one that is left.
-pub record Judging (t seen : List ℕ) (end i : ℕ) : Type 0 where
-  pub properties : Passed t 11 (λ x y z. HeldOnce t x) end i
+pub record Judging (t words seen : List ℕ) (i : ℕ) : Type 0 where
+  pub kind : OfKind t 11 words
+  pub done : (j : ℕ) → j < i → j < length words → HeldOnce t (first_of (at words j))
   pub ids : length seen ≡ id_count
-  pub lower : (j : ℕ) → i ≤ j → j < end → StampedUpTo seen (first_of (at t j))
+  pub lower : (j : ℕ) → i ≤ j → j < length words → StampedUpTo seen (first_of (at words j))
 
 module _ {t : List ℕ} (F : FactWords t) where
   -- The words of kind 11 ascend by their properties.
@@ -38,32 +42,10 @@ module _ {t : List ℕ} (F : FactWords t) where
           → (second_of w ≡ 0) × (third_of w ≡ 0) → first_of v < first_of w
       ascend v w m e f (p, q) (r, s) = omega arith
 
-  pub judging_none : (seen : List ℕ) (i end v w : ℕ) → v ≡ word_of 11 0 0 0 → w ≡ word_of 12 0 0 0 → Below t v i → Below t w end
-      → length seen ≡ id_count → StampedUpTo seen 0 → Judging t seen end i
-  judging_none seen i end v w p q B C l h = record {
-    properties = passed_none 11 (λ x y z. HeldOnce t x) i end v w p q B C;
-    ids = l;
-    lower = λ j a b y. omega (arith, h y);
-  }
-
-  module _ {seen : List ℕ} {end i : ℕ} (J : Judging t seen end i) where
-    pub judging_more : (new : List ℕ) → i < end → HeldOnce t (first_of (at t i)) → length new ≡ length seen
-        → StampedUpTo new (stamp_of (first_of (at t i))) → Judging t new end (i + 1)
-    judging_more new h q l m = record {
-      properties = passed_more 11 (λ x y z. HeldOnce t x) i end J.properties h q;
-      ids = l ∙ J.ids;
-      lower = λ j a b y. omega (
-        arith,
-        m y,
-        properties_ascend i j (omega arith) (omega (arith, J.properties.within))
-            (J.properties.left i (omega arith) h) (J.properties.left j (omega arith) b),
-      );
-    }
-
   -- The last word tells whether there is a word of kind 11, the highest.
-  pub last_exclusive : (n : ℕ) → n ≡ length t → (kind_of (at t (n - 1)) ≡ 11 → ⊥) → HasExclusive t → ⊥
-  last_exclusive n e h (i, l, k) = h (kind_is (at t i) (at t (n - 1)) (words_ascend F i (n - 1) (omega arith) (omega arith)) k
-      (shaped_within (F.facts (n - 1) (omega arith)).shaped))
+  pub last_exclusive : (n : ℕ) → n ≡ length t → HasExclusive t → kind_of (at t (n - 1)) ≡ 11
+  last_exclusive n e (i, l, k) = kind_is (at t i) (at t (n - 1)) (words_ascend F i (n - 1) (omega arith) (omega arith)) k
+      (shaped_within (F.facts (n - 1) (omega arith)).shaped)
     where
       kind_is : (v w : ℕ) → v ≤ w → kind_of v ≡ 11 → kind_of w ≤ kind_count → kind_of w ≡ 11
       kind_is v w a b c = omega arith
@@ -98,5 +80,29 @@ module _ {t : List ℕ} (F : FactWords t) where
           (subst (λ x. Stands t 10 (first_of (at t j)) x z) (sym r) (stands z j w)) in
           by_case i j v.0 w.0 (same (at t i) (at t j) v.1 w.1 first r (v.2 ∙ sym w.2)) (compare i j)
 
-  pub none_exclusive : (HasExclusive t → ⊥) → Meets (graph_of t) e2
-  none_exclusive n x y z w ((a, b, c), (i, l, e)) p q = absurd (n (i, l, (word_ids (at t i) 11 z 0 0 a b c e).0))
+pub judging_none : {t : List ℕ} (words seen : List ℕ) → OfKind t 11 words → length seen ≡ id_count → StampedUpTo seen 0
+    → Judging t words seen 0
+judging_none words seen W l h = record {
+  kind = W;
+  done = λ j a b. absurd (omega arith);
+  ids = l;
+  lower = λ j a b y. omega (arith, h y);
+}
+
+module _ {t words seen : List ℕ} {i : ℕ} (J : Judging t words seen i) where
+  pub judging_more : (new : List ℕ) → i < length words → HeldOnce t (first_of (at words i)) → length new ≡ length seen
+      → StampedUpTo new (stamp_of (first_of (at words i))) → Judging t words new (i + 1)
+  judging_more new h q l m = record {
+    kind = J.kind;
+    done = λ j a b. ⊎_elim (λ z. subst (λ (x : ℕ). HeldOnce t (first_of (at words x))) (sym z) q) (λ z. J.done j z b)
+        (eq-or-lt_of_le (omega arith));
+    ids = l ∙ J.ids;
+    lower = λ j a b y. omega (
+      arith,
+      m y,
+      properties_ascend J.kind.facts i j (omega arith) b (J.kind.here i h).0 (J.kind.here j b).0,
+    );
+  }
+
+  pub judging_end : length words ≤ i → AllHeldOnce t
+  judging_end h = each_of J.kind (λ x y z. HeldOnce t x) (λ j b. J.done j (omega arith) b)

@@ -29,18 +29,16 @@ const IDS: usize = TOP as usize + 1;
 
 const LINKS: usize = MOST + IDS;
 
-// Whether a property is exclusive. No kind is higher: the last word tells.
+// Whether a property is exclusive. No kind is higher: the last word tells. Crate `exclusive` asks the same of
+// facts and promises less; it does not stand on `spans`, whose words these are.
 fn has_exclusive(table: &[Word]) -> bool
     requires words { FactWords table.now }
     ensures answer { Decides result (HasExclusive table.now) }
 {
-    let count = table.len();
-    if 0 < count {
-        if kind_of(table[count - 1]) == EXCLUSIVE {
-            return true;
-        }
+    match table {
+        [.., last] => kind_of(*last) == EXCLUSIVE,
+        [] => false,
     }
-    false
 }
 
 // Whether each value of each exclusive property has one holder: by links and stamps of its own.
@@ -61,8 +59,5 @@ pub fn all_exclusive(table: &[Word]) -> bool
     requires few { length table.now ≤ product.most }
     ensures answer { Decides result (Meets (graph_of table.now) e2) }
 {
-    if has_exclusive(table) {
-        return all_held_once(table);
-    }
-    true
+    !has_exclusive(table) || all_held_once(table)
 }

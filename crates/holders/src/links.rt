@@ -15,18 +15,17 @@ pub fn latest_at(z: Word) -> usize
 }
 
 // Links each value to the one of its property before it, and each property to its last value. All links are 0
-// at first.
+// at first. A link is a place and one, 0 none: an Option of a place would take twice the fixed memory.
 pub fn link_values<'a>(table: &'a [Word], links: &mut [u16])
     requires places { Linkable table.now links.old }
     requires none { NoneLinked links.old }
     ensures links { Linked table.now links.new }
 {
-    let mut at = place_of(table, word_of(VALUE, 0, 0, 0));
+    let from = place_of(table, word_of(VALUE, 0, 0, 0));
     let end = place_of(table, word_of(VALUE + 1, 0, 0, 0));
-    while at < end {
+    for at in from..end {
         let latest = latest_at(third_of(table[at]));
         links[at] = links[latest];
-        at += 1;
-        links[latest] = at as u16;
+        links[latest] = at as u16 + 1;
     }
 }

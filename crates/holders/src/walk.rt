@@ -9,9 +9,10 @@ ghost use Rattle.holders.specs.Links.{Linked};
 ghost use Rattle.holders.specs.Seen.{stamp_of, StampedUpTo, Walkable};
 
 use crate::links::latest_at;
-use spans::{number_at, place_of};
-use table::{EXCLUSIVE, Word, first_of, place, second_of, word_of};
+use spans::{number_at, words_of_kind};
+use table::{EXCLUSIVE, Word, first_of, place, second_of};
 
+// A cast whose bound the contract proves: `TryFrom` would answer an error that cannot come.
 fn stamp_of(z: Word) -> u16
     requires id { Id z }
     ensures answer { result ≡ stamp_of z }
@@ -32,6 +33,7 @@ fn is_held_once<'a>(table: &'a [Word], links: &'a [u16], seen: &mut [u16], z: Wo
     ensures stamps { StampedUpTo seen.new (stamp_of z) }
 {
     let stamp = stamp_of(z);
+    // Follows links; no index is counted.
     let mut link = number_at(links, latest_at(z));
     while 0 < link {
         let y = value_of(table[link - 1]);
@@ -52,13 +54,11 @@ pub fn each_held_once<'a>(table: &'a [Word], links: &'a [u16], seen: &mut [u16])
     requires zeros { StampedUpTo seen.old 0 }
     ensures answer { Decides result (AllHeldOnce table.now) }
 {
-    let mut at = place_of(table, word_of(EXCLUSIVE, 0, 0, 0));
-    let end = place_of(table, word_of(EXCLUSIVE + 1, 0, 0, 0));
-    while at < end {
-        if !is_held_once(table, links, seen, first_of(table[at])) {
+    let properties = words_of_kind(table, EXCLUSIVE);
+    for &property in properties {
+        if !is_held_once(table, links, seen, first_of(property)) {
             return false;
         }
-        at += 1;
     }
     true
 }

@@ -16,11 +16,14 @@ use Rattle.list_form.specs.Listing.{accepted_of, refused_of, written}
 use Rattle.list_form.specs.Loops.{tickets_in, AllRun}
 use Rattle.list_form.proofs.Runs.{all_counted}
 use Rattle.writing.specs.WritePromise.{table_image, WritePromise}
-use Rattle.writing.specs.declared.Written.{Written}
 use Rattle.writing.proofs.WriteCall.{write_done}
 use Rattle.reading.specs.ReadPromise.{read_answer, read_words}
 use Rattle.exchange.specs.ToText.{room}
 use Rattle.packing.specs.Packed.{sixteen_bits, packed}
+use Rattle.std.specs.Prelude.{Ok, Err}
+use Rattle.table.specs.declared.refusals.Refusal.{Refusal}
+use Rattle.table.specs.Refused.{number}
+use Rattle.table.proofs.RefusalNumbers.{number_some}
 use Rattle.host_list.specs.HostList.{
   ticket_count,
   ran,
@@ -39,16 +42,20 @@ use Rattle.exchange.proofs.Between.{refused_keeps, passed_leaves, read_table}
 use Rattle.packing.proofs.Refused.{refused_is, passed_is}
 use Rattle.host_list.proofs.HostListLaws.{ran_numbers, ran_table, was_read, has_answers}
 
+-- No refusal has the number of none.
+pub not_none : (refusal : Refusal) → number refusal ≡ 0 → ⊥
+not_none refusal z = omega (arith, z, number_some refusal)
+
 -- The call is refused: all bytes are as they were.
-pub list_refused : (operator : Bool) (image tickets answers output : List ℕ) {n r : ℕ}
-    → n ≡ call_refusal operator image tickets answers output → (n ≡ 0 → ⊥) → r ≡ packed n 0 0 0
-    → HostListPromiseAs operator image tickets answers output r answers output
+pub list_refused : (operator : Bool) (image tickets answers output : List ℕ) (r : Refusal)
+    → number r ≡ call_refusal operator image tickets answers output
+    → HostListPromiseAs operator image tickets answers output (packed (number r) 0 0 0) answers output
 unfolding host_list_answer host_list_answers host_list_output
-list_refused operator image tickets answers output e h p =
+list_refused operator image tickets answers output r e =
     let refusal : ℕ = call_refusal operator image tickets answers output in
-    let no : refusal ≡ 0 → ⊥ = λ z. h (e ∙ z) in
+    let no : refusal ≡ 0 → ⊥ = λ z. not_none r (e ∙ z) in
     record {
-      number_is = p ∙ (ap (λ m. packed m 0 0 0) e ∙ sym (refused_is refusal _ no));
+      number_is = ap (λ m. packed m 0 0 0) e ∙ sym (refused_is refusal _ no);
       answers_left = sym (refused_keeps refusal _ answers no);
       output_left = sym (refused_keeps refusal _ output no);
     }
@@ -135,26 +142,38 @@ module _ (operator : Bool) {image tickets : List ℕ} (answers output : List ℕ
   pub counts_fit : (ok ≤ n) × (n < sixteen_bits)
   counts_fit = (omega (arith, accepted, counted), omega (arith, b.count, begun_room b z))
 
-  pub list_done : HasRoom operator image tickets output → (done : Written) (left : List ℕ) → WritePromise v output done left
-      → {number : ℕ}
-      → number ≡ packed 0 ok (n - ok) done.length → HostListPromiseAs operator image tickets answers output number told left
-  unfolding host_list_answer host_list_answers host_list_output
-  list_done fits done left p {number} e =
-      let words : v ≡ (ran operator image tickets).table = left_words operator b z all.words in
-      let size : ℕ = length (table_image v) in
-      let bytes : List ℕ = written (table_image v) output in
-      let same : table_image v ≡ image_left operator image tickets = ap table_image words in
-      let enough : size ≤ length output = omega (arith, ap length same, fits (begun_read b z)) in
-      let refusal : ℕ = call_refusal operator image tickets answers output in
-      let none : refusal ≡ 0 = sym (fitting operator b z all.words size (length output) refl enough) in
-      let by-writing = write_done v output (left_table operator b z all.words) enough size refl bytes refl in
-      let long : done.length ≡ length (image_left operator image tickets) = p.1 ∙ (sym by-writing.1 ∙ ap length same) in
-      let rest : n - ok ≡ refused_of numbers = omega (arith, accepted, counted) in
-      let told-counts : ℕ = packed 0 (accepted_of numbers) (refused_of numbers) (length (image_left operator image tickets)) in
-      let counts : packed 0 ok (n - ok) done.length ≡ told-counts = λ i. packed 0 (accepted i) (rest i) (long i) in
-      record {
-        number_is = e ∙ (counts ∙ sym (passed_is refusal told-counts none));
-        answers_left = numbered ∙ sym (passed_leaves refusal (written numbers answers) answers none);
-        output_left = p.2 ∙ (sym by-writing.2 ∙ (ap (λ l. written l output) same
-            ∙ sym (passed_leaves refusal (written (image_left operator image tickets) output) output none)));
-      }
+  -- An output that has room: writing is not refused.
+  module _ (fits : HasRoom operator image tickets output) (left : List ℕ) where
+    abbrev bytes : List ℕ
+    bytes = written (table_image v) output
+
+    same : table_image v ≡ image_left operator image tickets
+    same = ap table_image (left_words operator b z all.words)
+
+    enough : length (table_image v) ≤ length output
+    enough = omega (arith, ap length same, fits (begun_read b z))
+
+    by_writing : WritePromise v output (Ok (length (table_image v))) bytes
+    by_writing = write_done v output (left_table operator b z all.words) enough (length (table_image v)) refl bytes refl
+
+    pub never_short : (refusal : Refusal) → WritePromise v output (Err refusal) left → ⊥
+    never_short refusal p = not_none refusal (p.0 ∙ sym by_writing.0)
+
+    pub list_done : (size : ℕ) → WritePromise v output (Ok size) left
+        → HostListPromiseAs operator image tickets answers output (packed 0 ok (n - ok) size) told left
+    unfolding host_list_answer host_list_answers host_list_output
+    list_done size p =
+        let refusal : ℕ = call_refusal operator image tickets answers output in
+        let none : refusal ≡ 0 =
+        sym (fitting operator b z all.words (length (table_image v)) (length output) refl enough) in
+        let long : size ≡ length (image_left operator image tickets) = p.1 ∙ (sym by_writing.1 ∙ ap length same) in
+        let rest : n - ok ≡ refused_of numbers = omega (arith, accepted, counted) in
+        let told-counts : ℕ =
+        packed 0 (accepted_of numbers) (refused_of numbers) (length (image_left operator image tickets)) in
+        let counts : packed 0 ok (n - ok) size ≡ told-counts = λ i. packed 0 (accepted i) (rest i) (long i) in
+        record {
+          number_is = counts ∙ sym (passed_is refusal told-counts none);
+          answers_left = numbered ∙ sym (passed_leaves refusal (written numbers answers) answers none);
+          output_left = p.2 ∙ (sym by_writing.2 ∙ (ap (λ l. written l output) same
+              ∙ sym (passed_leaves refusal (written (image_left operator image tickets) output) output none)));
+        }

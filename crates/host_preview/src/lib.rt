@@ -5,12 +5,55 @@
 // leaves. The crate assumes nothing.
 #![tactic(auto)]
 
+ghost use Rattle.packing.specs.Packed.{packed_outcome};
 ghost use Rattle.host_preview.specs.HostPreview.{HostAskPromise, HostCommitPromise};
 
 use image::{read, write_checked};
-use packing::pack;
+use packing::{Told, pack_outcome};
 use preview::{ask_checked, commit_checked};
-use table::{MOST, Word};
+use table::{MOST, Refusal, Word};
+
+// The steps of asking: the facts that would come and those that would go, or the first refusal.
+fn ask_between(
+    image: &[u8],
+    ticket: &[u8],
+    added: &mut [Word],
+    removed: &mut [Word],
+) -> Result<Told, Refusal>
+    ensures promise { HostAskPromise image.now ticket.now added.old
+        removed.old (packed_outcome result) added.new removed.new }
+{
+    let mut table: [Word; MOST] = [0; MOST];
+    read(&mut table, image)?;
+    let asked = ask_checked(&table, ticket, added, removed)?;
+    Ok(Told {
+        second: asked.added,
+        third: asked.removed,
+        fourth: 0,
+    })
+}
+
+// The steps of committing: the facts added, the facts removed and the image's length, or the first refusal.
+fn commit_between(
+    image: &[u8],
+    ticket: &[u8],
+    added: &[Word],
+    removed: &[Word],
+    output: &mut [u8],
+) -> Result<Told, Refusal>
+    ensures promise { HostCommitPromise image.now ticket.now
+        added.now removed.now output.old (packed_outcome result) output.new }
+{
+    let mut table: [Word; MOST] = [0; MOST];
+    read(&mut table, image)?;
+    let applied = commit_checked(&mut table, ticket, added, removed)?;
+    let length = write_checked(&table, output)?;
+    Ok(Told {
+        second: applied.added,
+        third: applied.removed,
+        fourth: length,
+    })
+}
 
 // Reads the image into 2,048 words and asks there. Answers the number, the facts that would come and those
 // that would go. Refused, these are 0, and the runs are as they were.
@@ -18,13 +61,7 @@ pub fn ask_on_image(image: &[u8], ticket: &[u8], added: &mut [Word], removed: &m
     ensures promise { HostAskPromise image.now ticket.now added.old
         removed.old result added.new removed.new }
 {
-    let mut table: [Word; MOST] = [0; MOST];
-    let refusal = read(&mut table, image);
-    if refusal != 0 {
-        return pack(refusal, 0, 0, 0);
-    }
-    let asked = ask_checked(&table, ticket, added, removed);
-    pack(asked.answer, asked.added, asked.removed, 0)
+    pack_outcome(ask_between(image, ticket, added, removed))
 }
 
 // Reads the image into 2,048 words, commits the ticket there, writes the image of what it left. Answers the
@@ -40,18 +77,5 @@ pub fn commit_on_image(
     ensures promise { HostCommitPromise image.now ticket.now
         added.now removed.now output.old result output.new }
 {
-    let mut table: [Word; MOST] = [0; MOST];
-    let refusal = read(&mut table, image);
-    if refusal != 0 {
-        return pack(refusal, 0, 0, 0);
-    }
-    let applied = commit_checked(&mut table, ticket, added, removed);
-    if applied.answer != 0 {
-        return pack(applied.answer, 0, 0, 0);
-    }
-    let written = write_checked(&table, output);
-    if written.answer != 0 {
-        return pack(written.answer, 0, 0, 0);
-    }
-    pack(0, applied.added, applied.removed, written.length)
+    pack_outcome(commit_between(image, ticket, added, removed, output))
 }

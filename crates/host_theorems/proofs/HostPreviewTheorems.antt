@@ -7,7 +7,8 @@ use mathlib.Core.List.{List}
 use native.Mathlib.Omega.{arith}
 use native.Mathlib.Decide.{ℕ_discrete}
 use lib.Dec.{eqb, lit<}
-use lib.ListN.{length, take}
+use lib.ListN.{take}
+use Rattle.std.specs.Prelude.{Ok}
 use Rattle.rdfs.specs.Numbers.{product}
 use Rattle.rdfs.specs.Register.{Answer, refused_with, step, Table}
 use Rattle.rdfs.proofs.Lists.Tests.{tests_self, tests_decides}
@@ -17,7 +18,7 @@ use Rattle.exchange.specs.ToText.{room}
 use Rattle.exchange.proofs.Between.{refused_keeps, passed_leaves, read_table}
 use Rattle.packing.specs.Packed.{sixteen_bits, packed, answer_in, added_in, removed_in, length_in, refused_else}
 use Rattle.packing.proofs.Refused.{refused_is, passed_is}
-use Rattle.ticket.specs.declared.answer.Applied.{Applied}
+use Rattle.ticket.specs.Answered.{Outcome}
 use Rattle.preview.specs.Previews.{Asked, added_words, removed_words, short_run, out_of_date, asking, committing}
 use Rattle.preview.specs.PreviewPromises.{AskPromise}
 use Rattle.preview.proofs.CommitWays.{committed_stale, committed_refused, committed_current}
@@ -25,7 +26,7 @@ use Rattle.preview_theorems.proofs.PreviewLaws.{ask_number_lem, commit_number, a
 use Rattle.preview_theorems.proofs.AskTheorems.{asked_added, asked_removed}
 use Rattle.host_ticket.specs.HostTicket.{applied, host_number, host_bytes, HostPromiseOf, HostPromise}
 use Rattle.host_preview.specs.HostPreview.{asked_on, committed_on, HostAskPromise, HostCommitPromise}
-use Rattle.host_theorems.proofs.Saved.{accepted_passes, read_small, step_small, counts_fit, Kept, refused_of_lem}
+use Rattle.host_theorems.proofs.Saved.{accepted_passes, read_small, step_small, counts_fit, refused_of_lem}
 
 -- Of two numbers that fit their fields.
 cond_small : (b : Bool) (n m : ℕ) → n < sixteen_bits → m < sixteen_bits → cond b n m < sixteen_bits
@@ -104,11 +105,11 @@ module _ (image ticket added removed : List ℕ) (r : ℕ) (added' removed' : Li
         )
 
     -- The same answer as that of the call on a table.
-    abbrev answered : Applied
-    answered = record { answer = a.number; added = a.added; removed = a.removed }
+    abbrev answered : Outcome
+    answered = Ok (record { added = a.added; removed = a.removed })
 
     promise : AskPromise w ticket added removed answered a.added_run a.removed_run
-    promise = record { number = refl; added_count = refl; removed_count = refl; added_run = refl; removed_run = refl }
+    promise = record { number = sym zero; added_count = refl; removed_count = refl; added_run = refl; removed_run = refl }
 
     -- The runs, cut to the counts, are the words that would come and go.
     pub host_asked_added : take (added_in r) added' ≡ added_words product w ticket
@@ -117,7 +118,7 @@ module _ (image ticket added removed : List ℕ) (r : ℕ) (added' removed' : Li
         let cut : added_in r ≡ a.added = ap added_in number ∙ omega (arith, zero, counts.0, counts.1) in
         let run : added' ≡ a.added_run = p.added_run ∙ passed_leaves (read_answer room image) _ added passes.0 in
         (λ i. take (cut i) (run i))
-        ∙ asked_added w ticket added removed a.added_run a.removed_run answered promise zero
+        ∙ asked_added w ticket added removed a.added_run a.removed_run answered promise refl
 
     pub host_asked_removed : take (removed_in r) removed' ≡ removed_words product w ticket
     unfolding asked_on
@@ -125,7 +126,7 @@ module _ (image ticket added removed : List ℕ) (r : ℕ) (added' removed' : Li
         let cut : removed_in r ≡ a.removed = ap removed_in number ∙ omega (arith, zero, counts.0, counts.1) in
         let run : removed' ≡ a.removed_run = p.removed_run ∙ passed_leaves (read_answer room image) _ removed passes.0 in
         (λ i. take (cut i) (run i))
-        ∙ asked_removed w ticket added removed a.added_run a.removed_run answered promise zero
+        ∙ asked_removed w ticket added removed a.added_run a.removed_run answered promise refl
 
     -- Committing with the runs cut to the counts, on the same image, promises what `vimelosa_apply` does.
     pub host_asked_then_committed : (output : List ℕ) (c : ℕ) (v : List ℕ)

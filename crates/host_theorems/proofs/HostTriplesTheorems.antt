@@ -22,7 +22,7 @@ use Rattle.exchange.specs.ToImage.{text_graph, to_image_answer, to_image_length}
 use Rattle.exchange.proofs.Between.{refused_keeps, passed_leaves}
 use Rattle.exchange.proofs.BrokenLaws.{broken_inconsistent}
 use Rattle.exchange.proofs.PlaceLaws.{NamesFirst, place_few, place_one, place_none, place_names}
-use Rattle.exchange.proofs.ExchangeTheorems.{third_from_reading, to_text_refusal_keeps, to_image_refusal_keeps}
+use Rattle.exchange.proofs.ExchangeTheorems.{refusal_keeps, third_from_reading}
 use Rattle.packing.specs.Packed.{sixteen_bits, packed, answer_in, length_in}
 use Rattle.vimelosa.specs.HostCheck.{place_in}
 use Rattle.packing.specs.Packed.{text_length_in}
@@ -51,10 +51,10 @@ module _ (image output : List ℕ) (r : ℕ) (v : List ℕ) (p : HostWriteTriple
   pub host_write_triples_keeps : (answer_in r ≡ 0 → ⊥) → (text_length_in r ≡ 0) × (v ≡ output)
   host_write_triples_keeps h =
       let told = write_triples_number in
-      let kept = to_text_refusal_keeps image output (record {
-        answer = to_text_answer image output;
-        length = to_text_length image output;
-      }) v (record { answer_is = refl; length_is = refl; bytes_are = p.bytes_are }) (λ z. h (told.0 ∙ z)) in
+      let w : List ℕ = read_words room image in
+      let kept =
+      refusal_keeps (read_answer room image) (write_triples_answer w output) (table_text w) output (λ z. h (told.0 ∙ z))
+      (to_text_length image output) v refl p.bytes_are in
       (told.1 ∙ kept.0, kept.1)
 
 module _ (text output : List ℕ) where
@@ -84,12 +84,10 @@ module _ (text output : List ℕ) where
     pub host_read_triples_keeps : (answer_in r ≡ 0 → ⊥) → (length_in r ≡ 0) × (v ≡ output)
     host_read_triples_keeps h =
         let told = read_triples_number in
-        let kept = to_image_refusal_keeps text output (record {
-          answer = to_image_answer text output;
-          place = p.place;
-          length = to_image_length text output;
-        }) v (record { answer_is = refl; place_is = p.rule; length_is = refl; bytes_are = p.bytes_are })
-        (λ z. h (told.0 ∙ z)) in
+        let w : List ℕ = read_triples_words room text in
+        let kept =
+        refusal_keeps (read_triples_answer room text) (write_answer w output) (table_image w) output (λ z. h (told.0 ∙ z))
+        (to_image_length text output) v refl p.bytes_are in
         (told.2 ∙ kept.0, kept.1)
 
     -- For 3 the place is that of the first rule that the text's graph breaks: it is broken, and each rule before it is met.

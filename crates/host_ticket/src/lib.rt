@@ -4,12 +4,34 @@
 // the number that it answers and every byte that it leaves. The crate assumes nothing.
 #![tactic(auto)]
 
+ghost use Rattle.packing.specs.Packed.{packed_outcome};
 ghost use Rattle.host_ticket.specs.HostTicket.{HostPromiseAs};
 
 use image::{read, write_checked};
 use operators::apply_as;
-use packing::pack;
-use table::{MOST, Word};
+use packing::{Told, pack_outcome};
+use table::{MOST, Refusal, Word};
+
+// The steps: the facts added, the facts removed and the image's length, or the first refusal.
+fn apply_between(
+    operator: bool,
+    image: &[u8],
+    ticket: &[u8],
+    output: &mut [u8],
+) -> Result<Told, Refusal>
+    ensures promise { HostPromiseAs operator image.now ticket.now
+        output.old (packed_outcome result) output.new }
+{
+    let mut table: [Word; MOST] = [0; MOST];
+    read(&mut table, image)?;
+    let applied = apply_as(operator, &mut table, ticket)?;
+    let length = write_checked(&table, output)?;
+    Ok(Told {
+        second: applied.added,
+        third: applied.removed,
+        fourth: length,
+    })
+}
 
 // Reads the image into 2,048 words, applies the ticket to them, writes the image of what it left. Answers the
 // number, the facts added, the facts removed and the image's length. Refused as the steps refuse, in their
@@ -18,18 +40,5 @@ pub fn apply_on_image(operator: bool, image: &[u8], ticket: &[u8], output: &mut 
     ensures promise { HostPromiseAs operator image.now ticket.now
         output.old result output.new }
 {
-    let mut table: [Word; MOST] = [0; MOST];
-    let refusal = read(&mut table, image);
-    if refusal != 0 {
-        return pack(refusal, 0, 0, 0);
-    }
-    let applied = apply_as(operator, &mut table, ticket);
-    if applied.answer != 0 {
-        return pack(applied.answer, 0, 0, 0);
-    }
-    let written = write_checked(&table, output);
-    if written.answer != 0 {
-        return pack(written.answer, 0, 0, 0);
-    }
-    pack(0, applied.added, applied.removed, written.length)
+    pack_outcome(apply_between(operator, image, ticket, output))
 }

@@ -18,6 +18,9 @@ use Rattle.rdfs.specs.Register.{Table}
 use Rattle.rdfs.proofs.Tickets.FirstTrue.{passed_link}
 use Rattle.rdfs.proofs.Tickets.Steps.{checked_table}
 use Rattle.rdfs.proofs.Theorems.{product_sound}
+use Rattle.std.specs.Prelude.{Result}
+use Rattle.table.specs.declared.refusals.Refusal.{Refusal}
+use Rattle.table.specs.Refused.{answer_of}
 use Rattle.table.proofs.TestAnswers.{is_false}
 use Rattle.table.proofs.Filled.{filled_within}
 use Rattle.contents.specs.ImageForm.{Form, form, ten_form, TenEntries, image_form, fact_size, kinds}
@@ -28,37 +31,36 @@ use Rattle.contents.proofs.FactsRead.{fact_kind_lem}
 use Rattle.contents.proofs.RoundTrip.{all_entries, filled_facts}
 use Rattle.contents.proofs.Product.{proper}
 use Rattle.contents.proofs.ImageForms.{ten_legible, form_own, ten_own, ten_form_lem}
-use Rattle.writing.specs.WritePromise.{table_image, write_answer, write_length, WritePromise}
-use Rattle.writing.specs.declared.Written.{Written}
+use Rattle.writing.specs.WritePromise.{table_image, write_answer, write_length, length_of, WritePromise}
 use Rattle.writing.proofs.WriteCall.{write_done, write_parts, write_taken}
 use Rattle.reading.specs.ReadPromise.{image_words, read_answer, read_words, ReadPromise}
 use Rattle.reading.proofs.ReadCall.{read_refused}
 use Rattle.image.proofs.ImageTheorems.{body_is_ids, form_reads_back, image_reads_back, table_reads_back}
 use Rattle.image.proofs.ImageTheorems.{ReadAs, read_as, read_writes}
 
-module _ (t output : List ℕ) (w : Written) (out : List ℕ) (p : WritePromise t output w out) where
+module _ (t output : List ℕ) (w : Result ℕ Refusal) (out : List ℕ) (p : WritePromise t output w out) where
   -- Demand 1: the answer is the first of 1, 2, 3, 13 whose condition holds, or 0.
-  pub write_order : w.answer ≡ or_else (bad_size product t) 1 (or_else (bad_layout product t) 2 (or_else (inconsistent product t) 3
+  pub write_order : answer_of w ≡ or_else (bad_size product t) 1 (or_else (bad_layout product t) 2 (or_else (inconsistent product t) 3
       (or_else (ltb (length output) (length (table_image t))) 13 0)))
   write_order = p.0
 
   -- Demand 1: refused, the length is 0 and every byte is as it was.
-  pub write_refusal_keeps : (w.answer ≡ 0 → ⊥) → (w.length ≡ 0) × (out ≡ output)
+  pub write_refusal_keeps : (answer_of w ≡ 0 → ⊥) → (length_of w ≡ 0) × (out ≡ output)
   write_refusal_keeps h =
       let image : List ℕ = table_image t in
       let no : eqb (write_answer t output) 0 ≡ false = ne_eqb (write_answer t output) 0 (λ z. h (p.0 ∙ z)) in
       (p.1 ∙ ap (λ b. cond b (length image) 0) no, p.2 ∙ ap (λ b. cond b (image ++ drop (length image) output) output) no)
 
   -- Accepted: the table is not refused, and the bytes, cut to the length answered, are its image.
-  write_saved : w.answer ≡ 0 → (0 ≡ table_refusal product t 0) × (take w.length out ≡ table_image t)
+  write_saved : answer_of w ≡ 0 → (0 ≡ table_refusal product t 0) × (take (length_of w) out ≡ table_image t)
   write_saved z =
       let e : write_answer t output ≡ 0 = sym p.0 ∙ z in
-      let cut : take w.length out ≡ take (write_length t output) out = ap (λ n. take n out) p.1 in
+      let cut : take (length_of w) out ≡ take (write_length t output) out = ap (λ n. take n out) p.1 in
       ((write_parts t output e).0, cut ∙ (ap (take (write_length t output)) p.2 ∙ write_taken t output e))
 
   -- Demand 2: an image that was written is read into a table u of any allowed length that holds its facts: answer 0, the facts,
   -- then zeros.
-  pub write_reads_back : w.answer ≡ 0 → (u : List ℕ) (r : ℕ) (v : List ℕ) → ReadPromise u (take w.length out) r v
+  pub write_reads_back : answer_of w ≡ 0 → (u : List ℕ) (r : ℕ) (v : List ℕ) → ReadPromise u (take (length_of w) out) r v
       → bad_size product u ≡ false → length (filled t) ≤ length u → (r ≡ 0) × (v ≡ padded (length u) (filled t))
   write_reads_back z u r v q size h =
       let s = write_saved z in
@@ -66,7 +68,7 @@ module _ (t output : List ℕ) (w : Written) (out : List ℕ) (p : WritePromise 
       (q.0 ∙ (ap (read_answer u) s.1 ∙ sym back.0), q.1 ∙ (ap (read_words u) s.1 ∙ sym back.1))
 
   -- Into a table of as many words it is read as the very table.
-  pub write_reads_same : w.answer ≡ 0 → (u : List ℕ) (r : ℕ) (v : List ℕ) → ReadPromise u (take w.length out) r v
+  pub write_reads_same : answer_of w ≡ 0 → (u : List ℕ) (r : ℕ) (v : List ℕ) → ReadPromise u (take (length_of w) out) r v
       → length u ≡ length t → (r ≡ 0) × (v ≡ t)
   write_reads_same z u r v q h =
       let s = write_saved z in
@@ -80,7 +82,7 @@ module _ (t output : List ℕ) (w : Written) (out : List ℕ) (p : WritePromise 
       ((write_reads_back z u r v q size fits).0, q.1 ∙ (ap (read_words u) s.1 ∙ sym (table_reads_back t u s.0 size (sym h))))
 
   -- What `body` hands out of it for a kind is the ids of that kind's facts, in order.
-  pub write_body_ids : w.answer ≡ 0 → (whole part : Bor (List ℕ)) → whole.now ≡ take w.length out → (k : ℕ) → k ∈ kinds form
+  pub write_body_ids : answer_of w ≡ 0 → (whole part : Bor (List ℕ)) → whole.now ≡ take (length_of w) out → (k : ℕ) → k ∈ kinds form
       → BodyPromise whole k part → part.now ≡ body_of product form (filled t) k
   write_body_ids z whole part e k i b =
       let s = write_saved z in
@@ -104,9 +106,9 @@ module _ (u bytes : List ℕ) (r : ℕ) (v : List ℕ) (p : ReadPromise u bytes 
 
   -- Demand 2: bytes that were read are written again from the table read, into any output that is long enough, unless they have
   -- ten entries.
-  pub read_writes_again : r ≡ 0 → (TenEntries bytes → ⊥) → (output : List ℕ) (w : Written) (out : List ℕ)
+  pub read_writes_again : r ≡ 0 → (TenEntries bytes → ⊥) → (output : List ℕ) (w : Result ℕ Refusal) (out : List ℕ)
       → WritePromise v output w out
-      → length bytes ≤ length output → (w.answer ≡ 0) × (w.length ≡ length bytes) × (take w.length out ≡ bytes)
+      → length bytes ≤ length output → (answer_of w ≡ 0) × (length_of w ≡ length bytes) × (take (length_of w) out ≡ bytes)
   read_writes_again z n output w out q h =
       let x = read_writes u bytes (sym z ∙ p.0) n in
       let image : bytes ≡ table_image v = x.0 ∙ ap table_image (sym p.1) in
@@ -114,7 +116,7 @@ module _ (u bytes : List ℕ) (r : ℕ) (v : List ℕ) (p : ReadPromise u bytes 
       let size : ℕ = length (table_image v) in
       let room : size ≤ length output = subst (λ m. length m ≤ length output) image h in
       let done = write_done v output table room size refl (table_image v ++ drop size output) refl in
-      let cut : take w.length out ≡ take (write_length v output) out = ap (λ n. take n out) q.1 in (
+      let cut : take (length_of w) out ≡ take (write_length v output) out = ap (λ n. take n out) q.1 in (
         q.0 ∙ sym done.0,
         q.1 ∙ (sym done.1 ∙ ap length (sym image)),
         cut ∙ (ap (take (write_length v output)) q.2 ∙ (write_taken v output (sym done.0) ∙ sym image)),

@@ -11,4 +11,4 @@
 
 pub use contents::{FIRST_BODY, LONGEST, body};
 pub use reading::read;
-pub use writing::{Written, write, write_checked};
+pub use writing::{write, write_checked};

@@ -16,8 +16,7 @@ use Rattle.rdfs.proofs.Register.RunLaws.{runs_table, runs_words_at, runs_number_
 use Rattle.rdfs.proofs.Register.AfterEach.{after}
 use Rattle.rdfs.proofs.Register.Rearrangement.{rearrangement}
 use Rattle.rdfs.proofs.Theorems.{product_sound, accepted_in_order}
-use Rattle.list_form.specs.declared.answers.Listed.{Listed}
-use Rattle.list_form.specs.Listing.{list_refusal, ListPromise}
+use Rattle.list_form.specs.Listing.{ListOutcome, list_refusal, ListPromise}
 use Rattle.list_form.proofs.CutOff.{cut_take}
 use Rattle.list_form.proofs.Runs.{register_runs, register_keeps, as_register}
 use Rattle.list.specs.CallContracts.{Calls, Contracts, Single, OneByOne, left_by}
@@ -44,7 +43,7 @@ module _ (C : Calls) (contracts : Contracts C) (w : List ℕ) (t : Table product
   as_the_register : (bytes answers : List ℕ) → length (tickets bytes) ≤ length answers → AsRegister C w bytes answers
   as_the_register bytes answers room =
       let runs = room_runs w bytes answers t room in
-      let ran : (r : Listed) (v out : List ℕ) → ListPromise w bytes answers r v out
+      let ran : (r : ListOutcome) (v out : List ℕ) → ListPromise w bytes answers r v out
       → Ran answers r v out (register product w bytes) =
       λ r v out h. subst (Ran answers r v out) (as_register w bytes) (answered_ran false w bytes answers runs r v out h) in
       record {

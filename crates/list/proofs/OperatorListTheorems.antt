@@ -12,8 +12,8 @@ use Rattle.rdfs.specs.Register.{Done, run_with, cut, Table}
 use Rattle.rdfs.specs.Operators.{operator_step, others}
 use Rattle.rdfs.proofs.OperatorTheorems.{operators_keep_others}
 use Rattle.rdfs.proofs.Theorems.{product_sound}
-use Rattle.list_form.specs.declared.answers.Listed.{Listed}
-use Rattle.list_form.specs.Listing.{list_refusal, OperatorListPromise}
+use Rattle.table.specs.Refused.{answer_of}
+use Rattle.list_form.specs.Listing.{ListOutcome, list_refusal, OperatorListPromise}
 use Rattle.list_form.proofs.Runs.{as_runs}
 use Rattle.list.specs.CallContracts.{Single, OneByOne, left_by}
 use Rattle.list.specs.Demand3.{RanSingly, Ran, list_cut_off}
@@ -30,7 +30,7 @@ done_same w ss d r = λ i. record { numbers = sym r.numbers i; counts = sym r.co
 
 module _ (C : OperatorCalls) (contracts : OperatorContracts C) (w : List ℕ) (t : Table product w) where
   -- Whatever the list, accepted or not.
-  call_keeps : (bytes answers : List ℕ) (r : Listed) (v out : List ℕ) → C.apply_list w bytes answers r v out → SameOthers v w
+  call_keeps : (bytes answers : List ℕ) (r : ListOutcome) (v out : List ℕ) → C.apply_list w bytes answers r v out → SameOthers v w
   call_keeps bytes answers r v out c =
       let h : OperatorListPromise w bytes answers r v out = contracts.apply_list w bytes answers r v out c in
       elim (ℕ_discrete (list_refusal w bytes answers) 0) [
@@ -50,7 +50,7 @@ module _ (C : OperatorCalls) (contracts : OperatorContracts C) (w : List ℕ) (t
         ap (λ u. others (facts product u)) (by_singles first (take i ss) (first_calls C.apply i (tickets bytes) ss w h)).words
         ∙ operators_keep_others product product_sound w t first
 
-    as_singles : (r : Listed) (v out : List ℕ) → C.apply_list w bytes answers r v out → (r.answer ≡ 14 → ⊥)
+    as_singles : (r : ListOutcome) (v out : List ℕ) → C.apply_list w bytes answers r v out → (answer_of r ≡ 14 → ⊥)
         → Ran answers r v out (done_by w ss)
     as_singles r v out c n =
         let k : OperatorListPromise w bytes answers r v out = contracts.apply_list w bytes answers r v out c in

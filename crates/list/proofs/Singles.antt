@@ -4,13 +4,12 @@ use mathlib.Core.Path.{refl, subst}
 use mathlib.Core.List.{List, [], ◌∷◌}
 use lib.ListN.{take}
 use Rattle.rdfs.specs.Register.{Answer, run_with}
-use Rattle.ticket.specs.Answered.{Answered}
-use Rattle.ticket.specs.declared.answer.Applied.{Applied}
+use Rattle.ticket.specs.Answered.{Outcome, Answered}
 use Rattle.list.specs.CallContracts.{SingleCall, Single, OneByOne}
 use Rattle.list.specs.Demand3.{RanSingly}
 
-module _ (one : List ℕ → List ℕ → Answer) (call : SingleCall) (contract : (table ticket : List ℕ) (applied : Applied)
-    (after : List ℕ) → call table ticket applied after → Answered applied after (one table ticket)) where
+module _ (one : List ℕ → List ℕ → Answer) (call : SingleCall) (contract : (table ticket : List ℕ) (outcome : Outcome)
+    (after : List ℕ) → call table ticket outcome after → Answered outcome after (one table ticket)) where
   -- The first call did as the step, and the others from the words that it left.
   singly_more : (w t : List ℕ) (l : List (List ℕ)) (s : Single) (ss : List Single) → Answered s.answer s.table (one w t)
       → RanSingly s.table ss (run_with one s.table l) → RanSingly w (s ∷ ss) (run_with one w (t ∷ l))

@@ -12,8 +12,8 @@ use Rattle.rdfs.specs.Refusals.{or_else}
 use Rattle.rdfs.specs.Register.{Done, cut, Table}
 use Rattle.rdfs.specs.Operators.{register_as}
 use Rattle.rdfs.proofs.Tickets.Steps.{table_passes}
-use Rattle.list_form.specs.declared.answers.Listed.{Listed}
-use Rattle.list_form.specs.Listing.{list_refusal, listing_by, listing_as, ListAnswered}
+use Rattle.table.specs.Refused.{answer_of}
+use Rattle.list_form.specs.Listing.{ListOutcome, list_refusal, listing_by, listing_as, ListAnswered}
 use Rattle.list.specs.Demand3.{Ran}
 
 module _ (w bytes answers : List ℕ) (t : Table product w) where
@@ -30,19 +30,19 @@ module _ (w bytes answers : List ℕ) (t : Table product w) where
 
 -- A call with operators' tickets or with anyone's answers the refusal; refused, it leaves the words.
 module _ (w answers : List ℕ) (done : Done) where
-  answer_of : (n : ℕ) → (listing_by n w answers done).answer ≡ n
-  answer_of zero = refl
-  answer_of (suc n) = refl
+  answer_is : (n : ℕ) → (listing_by n w answers done).answer ≡ n
+  answer_is zero = refl
+  answer_is (suc n) = refl
 
   kept_of : (n : ℕ) → (n ≡ 0 → ⊥) → (listing_by n w answers done).table ≡ w
   kept_of zero h = absurd (h refl)
   kept_of (suc n) h = refl
 
-module _ (operator : Bool) (w bytes answers : List ℕ) (r : Listed) (v out : List ℕ)
+module _ (operator : Bool) (w bytes answers : List ℕ) (r : ListOutcome) (v out : List ℕ)
     (h : ListAnswered r v out (listing_as operator w bytes answers)) where
-  pub answers_refusal : r.answer ≡ list_refusal w bytes answers
+  pub answers_refusal : answer_of r ≡ list_refusal w bytes answers
   unfolding listing_as
-  answers_refusal = h.answer ∙ answer_of w answers (register_as operator product w bytes) (list_refusal w bytes answers)
+  answers_refusal = h.answer ∙ answer_is w answers (register_as operator product w bytes) (list_refusal w bytes answers)
 
   pub refused_keeps : (list_refusal w bytes answers ≡ 0 → ⊥) → v ≡ w
   unfolding listing_as
@@ -54,7 +54,7 @@ module _ (operator : Bool) (w bytes answers : List ℕ) (e : list_refusal w byte
   unfolding listing_as
   listing_runs = ap (λ n. listing_by n w answers (register_as operator product w bytes)) e
 
-  pub answered_ran : (r : Listed) (v out : List ℕ) → ListAnswered r v out (listing_as operator w bytes answers)
+  pub answered_ran : (r : ListOutcome) (v out : List ℕ) → ListAnswered r v out (listing_as operator w bytes answers)
       → Ran answers r v out (register_as operator product w bytes)
   answered_ran r v out h =
       let k : ListAnswered r v out (listing_by 0 w answers (register_as operator product w bytes)) =

@@ -7,37 +7,38 @@ use Rattle.rdfs.specs.Tickets.{decoded, inserts, deletes, named, asked}
 use Rattle.rdfs.specs.Register.{Done, cut, register, Table}
 use Rattle.rdfs.specs.Orders.{SameTickets, InOrder, AllInsertions, AllAccepted}
 use Rattle.ticket_form.specs.declared.fields.Ticket.{Ticket}
-use Rattle.list_form.specs.declared.answers.Listed.{Listed}
-use Rattle.list_form.specs.Listing.{accepted_of, refused_of, written, record_bytes}
+use Rattle.table.specs.Refused.{answer_of}
+use Rattle.ticket.specs.Answered.{added_by, removed_by}
+use Rattle.list_form.specs.Listing.{ListOutcome, accepted_in, refused_in, accepted_of, refused_of, written, record_bytes}
 use Rattle.list.specs.CallContracts.{Calls, Single, OneByOne, left_by}
 
 -- Single calls do as the register.
 pub record RanSingly (table : List ℕ) (singles : List Single) (done : Done) : Type 0 where
   pub words : left_by table singles ≡ done.table
-  pub numbers : map (λ s. s.answer.answer) singles ≡ done.numbers
-  pub counts : concat_map (λ s. s.answer.added ∷ s.answer.removed ∷ []) singles ≡ done.counts
+  pub numbers : map (λ s. answer_of s.answer) singles ≡ done.numbers
+  pub counts : concat_map (λ s. added_by s.answer ∷ removed_by s.answer ∷ []) singles ≡ done.counts
 
 -- A list call runs the list and does as the register: its answer bytes are the numbers in order, then the
 -- bytes as they were; accepted counts the zeros among the numbers, and refused the others.
-pub record Ran (answers : List ℕ) (listed : Listed) (after out : List ℕ) (done : Done) : Type 0 where
-  pub answer : listed.answer ≡ 0
+pub record Ran (answers : List ℕ) (outcome : ListOutcome) (after out : List ℕ) (done : Done) : Type 0 where
+  pub answer : answer_of outcome ≡ 0
   pub words : after ≡ done.table
   pub numbers : out ≡ written done.numbers answers
-  pub accepted : listed.accepted ≡ accepted_of done.numbers
-  pub refused : listed.refused ≡ refused_of done.numbers
+  pub accepted : accepted_in outcome ≡ accepted_of done.numbers
+  pub refused : refused_in outcome ≡ refused_of done.numbers
 
 -- Every call on a list, from the same words at first, does as the register. A list of whole records may be
 -- handed over as ticket structs.
 pub record AsRegister (calls : Calls) (table bytes answers : List ℕ) : Type 0 where
   pub singly : (singles : List Single) → OneByOne calls.apply table (cut record_length bytes) singles
       → RanSingly table singles (register product table bytes)
-  pub each : (listed : Listed) (after out : List ℕ) → calls.apply_each table bytes answers listed after out
-      → Ran answers listed after out (register product table bytes)
-  pub listed : (listed : Listed) (after out : List ℕ) → calls.apply_list table bytes answers listed after out
-      → Ran answers listed after out (register product table bytes)
-  pub records : (tickets : List Ticket) → record_bytes tickets ≡ bytes → (listed : Listed) (after out : List ℕ)
-      → calls.apply_records table tickets answers listed after out
-      → Ran answers listed after out (register product table bytes)
+  pub each : (outcome : ListOutcome) (after out : List ℕ) → calls.apply_each table bytes answers outcome after out
+      → Ran answers outcome after out (register product table bytes)
+  pub listed : (outcome : ListOutcome) (after out : List ℕ) → calls.apply_list table bytes answers outcome after out
+      → Ran answers outcome after out (register product table bytes)
+  pub records : (tickets : List Ticket) → record_bytes tickets ≡ bytes → (outcome : ListOutcome) (after out : List ℕ)
+      → calls.apply_records table tickets answers outcome after out
+      → Ran answers outcome after out (register product table bytes)
 
 -- The list cut off after so many tickets.
 abbrev pub list_cut_off : ℕ → List ℕ → List ℕ

@@ -6,10 +6,10 @@ use Rattle.rdfs.specs.Lists.{concat_map}
 use Rattle.rdfs.specs.Words.{facts}
 use Rattle.rdfs.specs.Register.{Done, cut}
 use Rattle.rdfs.specs.Operators.{others}
-use Rattle.ticket.specs.declared.answer.Applied.{Applied}
+use Rattle.table.specs.Refused.{answer_of}
+use Rattle.ticket.specs.Answered.{Outcome, added_by, removed_by}
 use Rattle.operators.specs.Operator.{OperatorPromise}
-use Rattle.list_form.specs.declared.answers.Listed.{Listed}
-use Rattle.list_form.specs.Listing.{OperatorListPromise}
+use Rattle.list_form.specs.Listing.{ListOutcome, OperatorListPromise}
 use Rattle.list.specs.CallContracts.{SingleCall, ListCall, Single, OneByOne, left_by}
 use Rattle.list.specs.Demand3.{Ran, list_cut_off}
 
@@ -19,17 +19,17 @@ pub record OperatorCalls : Type 1 where
   pub apply_list : ListCall
 
 pub record OperatorContracts (calls : OperatorCalls) : Type 0 where
-  pub apply : (table ticket : List ℕ) (applied : Applied) (after : List ℕ)
-      → calls.apply table ticket applied after → OperatorPromise table ticket applied after
-  pub apply_list : (table bytes answers : List ℕ) (listed : Listed) (after out : List ℕ)
-      → calls.apply_list table bytes answers listed after out
-      → OperatorListPromise table bytes answers listed after out
+  pub apply : (table ticket : List ℕ) (outcome : Outcome) (after : List ℕ)
+      → calls.apply table ticket outcome after → OperatorPromise table ticket outcome after
+  pub apply_list : (table bytes answers : List ℕ) (outcome : ListOutcome) (after out : List ℕ)
+      → calls.apply_list table bytes answers outcome after out
+      → OperatorListPromise table bytes answers outcome after out
 
 -- What single calls one after another have done.
 abbrev pub done_by : List ℕ → List Single → Done
 done_by table singles = record {
-  numbers = map (λ s. s.answer.answer) singles;
-  counts = concat_map (λ s. s.answer.added ∷ s.answer.removed ∷ []) singles;
+  numbers = map (λ s. answer_of s.answer) singles;
+  counts = concat_map (λ s. added_by s.answer ∷ removed_by s.answer ∷ []) singles;
   table = left_by table singles;
 }
 
@@ -44,12 +44,12 @@ pub record OperatorsList (calls : OperatorCalls) (table bytes answers : List ℕ
   pub singles_keep : (singles : List Single)
       → OneByOne calls.apply table (cut record_length bytes) singles → (i : ℕ)
       → SameOthers (left_by table (take i singles)) table
-  pub list_keeps : (listed : Listed) (after out : List ℕ)
-      → calls.apply_list table bytes answers listed after out → SameOthers after table
-  pub cut_off_keeps : (i : ℕ) (listed : Listed) (after out : List ℕ)
-      → calls.apply_list table (list_cut_off i bytes) answers listed after out → SameOthers after table
+  pub list_keeps : (outcome : ListOutcome) (after out : List ℕ)
+      → calls.apply_list table bytes answers outcome after out → SameOthers after table
+  pub cut_off_keeps : (i : ℕ) (outcome : ListOutcome) (after out : List ℕ)
+      → calls.apply_list table (list_cut_off i bytes) answers outcome after out → SameOthers after table
   -- The list call does as single calls one after another: their words, their numbers in its answer bytes, and
   -- how many of them are accepted and refused.
   pub as_singles : (singles : List Single) → OneByOne calls.apply table (cut record_length bytes) singles
-      → (listed : Listed) (after out : List ℕ) → calls.apply_list table bytes answers listed after out
-      → (listed.answer ≡ 14 → ⊥) → Ran answers listed after out (done_by table singles)
+      → (outcome : ListOutcome) (after out : List ℕ) → calls.apply_list table bytes answers outcome after out
+      → (answer_of outcome ≡ 14 → ⊥) → Ran answers outcome after out (done_by table singles)

@@ -14,9 +14,9 @@ ghost use Rattle.rdfs.specs.Operators.{register_as};
 ghost use Rattle.list_form.specs.Listing.{listing_as, listing, operator_listing, ListAnswered};
 ghost use Rattle.list_form.specs.Loops.{AllRun};
 
-use list_form::{Listed, count_tickets, find_end, list_refusal, put_answer, sum_up};
+use list_form::{Listed, check_list, count_tickets, put_answer, sum_up, tickets_of};
 use operators::{ANYONE, OPERATOR, apply_as};
-use table::Word;
+use table::{Refusal, Word, answer_of};
 
 // Runs the tickets, an operator's or anyone's, in turn on a table known to be consistent. The answer is how
 // many are accepted.
@@ -26,51 +26,46 @@ pub fn run_checked(operator: bool, table: &mut [Word], bytes: &[u8], answers: &m
     ensures answer { AllRun result table.new answers.old answers.new
         (register_as operator product table.old bytes.now) }
 {
-    let mut from = 0;
-    let mut place = 0;
     let mut accepted = 0;
-    while from < bytes.len() {
-        let to = find_end(from, bytes.len());
-        let applied = apply_as(operator, table, &bytes[from..to]);
-        accepted = put_answer(answers, place, accepted, applied.answer);
-        place += 1;
-        from = to;
+    for (place, ticket) in tickets_of(bytes).enumerate() {
+        let outcome = apply_as(operator, table, ticket);
+        accepted = put_answer(answers, place, accepted, answer_of(outcome));
     }
     accepted
 }
 
 // The same without answers: what the tickets leave, and nothing else.
+// With `run_checked` in two: a closure would have to say of the lent table again what each body says.
 pub fn run_unanswered(operator: bool, table: &mut [Word], bytes: &[u8])
     requires table { Table product table.old }
     ensures words { table.new ≡ (register_as operator product table.old
         bytes.now).table }
 {
-    let mut from = 0;
-    while from < bytes.len() {
-        let to = find_end(from, bytes.len());
-        apply_as(operator, table, &bytes[from..to]);
-        from = to;
+    for ticket in tickets_of(bytes) {
+        let _outcome = apply_as(operator, table, ticket);
     }
 }
 
 // The list call, with an operator's tickets or with anyone's.
-fn list_as(operator: bool, table: &mut [Word], bytes: &[u8], answers: &mut [u8]) -> Listed
+fn list_as(
+    operator: bool,
+    table: &mut [Word],
+    bytes: &[u8],
+    answers: &mut [u8],
+) -> Result<Listed, Refusal>
     ensures answer { ListAnswered result table.new answers.new
         (listing_as operator table.old bytes.now answers.old) }
 {
     let tickets = count_tickets(bytes.len());
-    let refusal = list_refusal(table, tickets, answers.len());
-    if refusal != 0 {
-        return sum_up(refusal, 0, 0);
-    }
+    check_list(table, tickets, answers.len())?;
     let accepted = run_checked(operator, table, bytes, answers);
-    sum_up(refusal, tickets, accepted)
+    Ok(sum_up(tickets, accepted))
 }
 
 // Runs a list of tickets in turn on one table, which is checked once. Each ticket's number goes to its answer
 // byte; bytes beyond the list are as they were. Refused with 1, 2, 3 or 14, the table and the answer bytes
 // are as found.
-pub fn apply_list(table: &mut [Word], bytes: &[u8], answers: &mut [u8]) -> Listed
+pub fn apply_list(table: &mut [Word], bytes: &[u8], answers: &mut [u8]) -> Result<Listed, Refusal>
     ensures answer { ListAnswered result table.new answers.new
         (listing table.old bytes.now answers.old) }
 {
@@ -78,7 +73,11 @@ pub fn apply_list(table: &mut [Word], bytes: &[u8], answers: &mut [u8]) -> Liste
 }
 
 // The same with tickets of operators, each run as `operators::apply_operator` runs it.
-pub fn apply_operator_list(table: &mut [Word], bytes: &[u8], answers: &mut [u8]) -> Listed
+pub fn apply_operator_list(
+    table: &mut [Word],
+    bytes: &[u8],
+    answers: &mut [u8],
+) -> Result<Listed, Refusal>
     ensures answer { ListAnswered result table.new answers.new
         (operator_listing table.old bytes.now answers.old) }
 {

@@ -1,28 +1,18 @@
--- A loop over the bytes of a list: the ticket from a place on is run, and what follows it is left. Assumes nothing.
-use Prim.Native.Nat.{ℕ, ◌+◌, ◌-◌, ◌≤◌, ◌<◌, min}
+-- A loop over the bytes of a list: the first ticket of those that are left is run. Assumes nothing.
+use Prim.Native.Nat.{ℕ, ◌+◌, ◌≤◌, ◌<◌, min}
 use mathlib.Core.Path.{◌≡◌, sym, ap, subst, ◌∙◌}
 use mathlib.Core.Bool.{Bool}
-use mathlib.Core.List.{List, ◌∷◌}
+use mathlib.Core.List.{List, ◌∷◌, ◌++◌}
 use native.Mathlib.Omega.{arith}
-use lib.ListN.{length, take, drop, set}
+use lib.ListN.{length, set}
 use Rattle.rdfs.specs.Numbers.{product, record_length}
 use Rattle.rdfs.specs.Register.{Answer, run_with, cut, Table}
 use Rattle.rdfs.specs.Operators.{step_as, register_as}
 use Rattle.rdfs.proofs.Register.RunLaws.{Keeps}
 use Rattle.list_form.specs.Loops.{accepted_after, OneRun, AllRun}
-use Rattle.list_form.proofs.CutOff.{cut_from, cut_end}
+use Rattle.list_form.proofs.CutOff.{cut_chunk, cut_end}
 use Rattle.list_form.proofs.Runs.{as_runs}
-use Rattle.list_form.proofs.Walked.{
-  Walked,
-  walked_start,
-  walked_out,
-  walked_accepted,
-  walked_place,
-  walked_words,
-  walked_table,
-  walked_more,
-  walked_done,
-}
+use Rattle.list_form.proofs.Walked.{Walked, walked_start, walked_accepted, walked_table, walked_place, walked_more, walked_done}
 
 -- A ticket that answers n and leaves the words v, as the step does, and n put to its byte.
 pub one_run : {i ok r n : ℕ} {v out new : List ℕ} {s : Answer} → n ≡ s.number → v ≡ s.table → r ≡ accepted_after ok n
@@ -30,57 +20,47 @@ pub one_run : {i ok r n : ℕ} {v out new : List ℕ} {s : Answer} → n ≡ s.n
 one_run {i} {ok} {out = out} number words p q =
     record { accepted = p ∙ ap (accepted_after ok) number; words = words; numbers = q ∙ ap (set out i) number }
 
--- The bytes before place `from` are run as i tickets.
-pub record ByteWalk (one : List ℕ → List ℕ → Answer) (start room bytes : List ℕ) (from i ok : ℕ) (w out : List ℕ)
-    : Type 0 where
-  pub within : from ≤ length bytes
-  pub fewer : i ≤ from
-  pub walked : Walked one start room (cut record_length bytes) (cut record_length (drop from bytes)) i ok w out
+-- Of the bytes of a list some are run as i tickets, and these are left.
+pub record ByteWalk (one : List ℕ → List ℕ → Answer) (start room bytes left : List ℕ) (i ok : ℕ) (w out : List ℕ) : Type 0 where
+  pub walked : Walked one start room (cut record_length bytes) (cut record_length left) i ok w out
 
-pub byte_start : (one : List ℕ → List ℕ → Answer) (start room bytes : List ℕ) → length (cut record_length bytes) ≤ length room
-    → ByteWalk one start room bytes 0 0 0 start room
-byte_start one start room bytes h =
-    record { within = omega arith; fewer = omega arith; walked = walked_start one start room (cut record_length bytes) h }
+pub byte_start : (one : List ℕ → List ℕ → Answer) (start room bytes left : List ℕ) {i : ℕ} → left ≡ bytes → i ≡ 0
+    → length (cut record_length bytes) ≤ length room → ByteWalk one start room bytes left i 0 start room
+byte_start one start room bytes left {i} all none h =
+    rw (all, none) record { walked = walked_start one start room (cut record_length bytes) h }
 
-module _ {one : List ℕ → List ℕ → Answer} {start room bytes : List ℕ} {from i ok : ℕ} {w out : List ℕ}
-    (q : ByteWalk one start room bytes from i ok w out) where
-  pub byte_out : length out ≡ length room
-  byte_out = walked_out q.walked
-
+module _ {one : List ℕ → List ℕ → Answer} {start room bytes left : List ℕ} {i ok : ℕ} {w out : List ℕ}
+    (q : ByteWalk one start room bytes left i ok w out) where
   pub byte_accepted : ok ≤ i
   byte_accepted = walked_accepted q.walked
-
-  pub byte_words : Keeps product one → length w ≡ length start
-  byte_words = walked_words q.walked
 
   pub byte_table : Keeps product one → Table product start → Table product w
   byte_table = walked_table q.walked
 
-  pub byte_done : length bytes ≤ from → AllRun ok w room out (run_with one start (cut record_length bytes))
+  pub byte_done : length left ≡ 0 → AllRun ok w room out (run_with one start (cut record_length bytes))
   byte_done h = walked_done (subst (λ l. Walked one start room (cut record_length bytes) l i ok w out)
-      (cut_end record_length bytes h) q.walked)
+      (cut_end record_length left h) q.walked)
 
-  -- The next ticket ends at `to`.
-  module _ {to : ℕ} (h : from < length bytes) (end : to ≡ min (from + record_length) (length bytes)) where
-    next : Walked one start room (cut record_length bytes) (take (to - from) (drop from bytes) ∷ cut record_length (drop to bytes))
-        i ok w out
+  -- The next ticket, and what is left after it, as the iterator over the tickets gives them.
+  module _ {size : ℕ} (ticket rest : List ℕ) (five : size ≡ record_length) (step : (left ≡ ticket ++ rest)
+      × (length ticket ≡ min size (length left)) × (0 < length left)) where
+    next : Walked one start room (cut record_length bytes) (ticket ∷ cut record_length rest) i ok w out
     next = subst (λ l. Walked one start room (cut record_length bytes) l i ok w out)
-        (cut_from record_length (omega arith) bytes from to h end) q.walked
+        (cut_chunk record_length (omega arith) left ticket rest step.0 (omega (arith, five, step.1)) step.2) q.walked
 
-    pub byte_place : i < length out
-    byte_place = walked_place next (omega arith)
+    module _ {place : ℕ} (here : place ≡ i) where
+      pub byte_place : place < length out
+      byte_place = omega (arith, here, walked_place next (omega arith))
 
-    pub byte_more : {r : ℕ} {v new : List ℕ} → OneRun i ok r v out new (one w (take (to - from) (drop from bytes)))
-        → ByteWalk one start room bytes to (i + 1) r v new
-    byte_more o = record {
-      within = omega (arith, end);
-      fewer = omega (arith, end, h, q.fewer);
-      walked = walked_more next o;
-    }
+      pub byte_more : {count r : ℕ} {v new : List ℕ} → count ≡ i + 1 → OneRun place ok r v out new (one w ticket)
+          → ByteWalk one start room bytes rest count r v new
+      byte_more {count} {r} {v} {new} more o =
+          let run : OneRun i ok r v out new (one w ticket) = subst (λ k. OneRun k ok r v out new (one w ticket)) here o in
+          subst (λ k. ByteWalk one start room bytes rest k r v new) (sym more) (record { walked = walked_more next run })
 
 -- By the register's step, with operators' tickets or with anyone's.
-pub register_done : (operator : Bool) {start room bytes : List ℕ} {from i ok : ℕ} {w out : List ℕ}
-    → ByteWalk (step_as operator product) start room bytes from i ok w out → length bytes ≤ from
+pub register_done : (operator : Bool) {start room bytes left : List ℕ} {i ok : ℕ} {w out : List ℕ}
+    → ByteWalk (step_as operator product) start room bytes left i ok w out → length left ≡ 0
     → AllRun ok w room out (register_as operator product start bytes)
-register_done operator {start} {room} {bytes} {from} {i} {ok} {w} {out} q h =
+register_done operator {start} {room} {bytes} {left} {i} {ok} {w} {out} q h =
     subst (AllRun ok w room out) (sym (as_runs operator start bytes)) (byte_done q h)

@@ -1,11 +1,11 @@
 -- The tickets of a list cut off after some of them are its first. Assumes nothing.
-use Prim.Native.Nat.{ℕ, zero, suc, ◌+◌, ◌-◌, ◌*◌, ◌<◌, ◌≤◌, min}
-use mathlib.Core.Path.{◌≡◌, sym, ap, ◌∙◌}
-use mathlib.Core.List.{List, [], ◌∷◌, ◌++◌}
+use Prim.Native.Nat.{ℕ, zero, suc, ◌+◌, ◌*◌, ◌<◌, ◌≤◌, min}
+use mathlib.Core.Path.{◌≡◌, refl, sym, ap, ◌∙◌}
+use mathlib.Core.List.{List, [], ◌∷◌, ◌++◌, append-nil}
 use native.Mathlib.Omega.{arith}
 use native.Mathlib.Decide.{dec_le}
-use lib.ListN.{length, take, drop, get_or, length-drop, drop_of_length-le}
-use lib.Seq.{take-nil, take_all, take-add, length-take-le, drop-cons, drop-drop}
+use lib.ListN.{length, take, drop, length-append}
+use lib.Seq.{take-nil, take_all, take-add, length-take-le}
 use Rattle.rdfs.specs.Register.{cut}
 use Rattle.rdfs.proofs.Register.Cut.{cut_more, cut_record, cut_short}
 
@@ -28,29 +28,20 @@ module _ (n : ℕ) (some : 0 < n) where
         ap (cut n) whole ∙ (one ∙ (ap (λ c. (x ∷ l) ∷ c) (sym (take-nil k)) ∙ sym (ap (take (suc k)) one)))
   ]
 
-  -- The first ticket from place i on ends at e.
-  module _ (l : List ℕ) (i e : ℕ) (h : i < length l) (end : e ≡ min (i + n) (length l)) where
-    cut_first : cut n (drop i l) ≡ take n (drop i l) ∷ cut n (drop n (drop i l))
-    cut_first = rw (drop-cons l i 0 h) (cut_more n some (get_or l i 0) (drop (suc i) l))
+  -- The first ticket of some bytes is a record, or all of them if they are short of one; the rest is cut on.
+  pub cut_chunk : (l t rest : List ℕ) → l ≡ t ++ rest → length t ≡ min n (length l) → 0 < length l → cut n l ≡ t ∷ cut n rest
+  cut_chunk l t rest e size h = elim (dec_le n (length l)) [
+    | yes long ↦ ap (cut n) e ∙ cut_record n some t rest (omega (arith, size, long))
+    | no short ↦ short_chunk rest e (omega (arith, ap length e, length-append t rest, size, short))
+  ]
+    where
+      short_chunk : (left : List ℕ) → l ≡ t ++ left → length left ≡ 0 → cut n l ≡ t ∷ cut n left
+      short_chunk [] whole none =
+          let all : l ≡ t = whole ∙ append-nil t in
+          rw all (cut_short n t (omega (arith, h, ap length all)) (omega (arith, size)))
+      short_chunk (x ∷ left) whole none = absurd (omega (arith, none))
 
-    -- What is taken up to e is the ticket, and what follows is cut on.
-    pub cut_from : cut n (drop i l) ≡ take (e - i) (drop i l) ∷ cut n (drop e l)
-    cut_from = elim (dec_le (i + n) (length l)) [
-      | yes long ↦
-          let at : e ≡ i + n = omega (arith, end, long) in
-          let size : e - i ≡ n = omega (arith, at) in
-          cut_first ∙ (ap (λ c. take n (drop i l) ∷ cut n c) (drop-drop n i l ∙ ap (λ k. drop k l) (sym at))
-          ∙ ap (λ k. take k (drop i l) ∷ cut n (drop e l)) (sym size))
-      | no short ↦
-          let at : e ≡ length l = omega (arith, end, short) in
-          let rest : length (drop i l) ≤ n = omega (arith, length-drop i l, short) in
-          let whole : take n (drop i l) ≡ take (e - i) (drop i l) =
-          take_all n (drop i l) rest ∙ sym (take_all (e - i) (drop i l) (omega (arith, length-drop i l, at))) in
-          let past : length l ≤ e = omega (arith, at) in
-          let none : drop n (drop i l) ≡ drop e l = drop_of_length-le (drop i l) rest ∙ sym (drop_of_length-le l past) in
-          cut_first ∙ (ap (λ c. take n (drop i l) ∷ cut n c) none ∙ ap (λ t. t ∷ cut n (drop e l)) whole)
-    ]
-
--- At the end no ticket is left.
-pub cut_end : (n : ℕ) (l : List ℕ) {i : ℕ} → length l ≤ i → cut n (drop i l) ≡ []
-cut_end n l h = ap (cut n) (drop_of_length-le l h)
+-- Where no byte is left, no ticket is.
+pub cut_end : (n : ℕ) (l : List ℕ) → length l ≡ 0 → cut n l ≡ []
+cut_end n [] h = refl
+cut_end n (x ∷ l) h = absurd (omega (arith, h))

@@ -1,10 +1,12 @@
 -- What the list calls answer and leave, for all words of a table, bytes of a list and answer bytes.
-use Rattle.std.specs.Prelude.{ℕ, zero, suc, ◌≡◌, Bool, true, false, not, List, [], ◌∷◌, ◌++◌, eqb, ltb, length, drop}
+use Rattle.std.specs.Prelude.{ℕ, zero, suc, ◌≡◌, Bool, true, false, not, List, [], ◌∷◌, ◌++◌, eqb, ltb, length, drop, Result, Ok, Err}
 use Rattle.rdfs.specs.Numbers.{product, record_length}
 use Rattle.rdfs.specs.Lists.{count, concat_map}
 use Rattle.rdfs.specs.Refusals.{first_true, table_refusal}
 use Rattle.rdfs.specs.Register.{Done, cut}
 use Rattle.rdfs.specs.Operators.{register_as}
+use Rattle.table.specs.declared.refusals.Refusal.{Refusal}
+use Rattle.table.specs.Refused.{answer_of}
 use Rattle.ticket_form.specs.TicketForm.{bytes_of}
 use Rattle.ticket_form.specs.declared.fields.Ticket.{Ticket}
 use Rattle.list_form.specs.declared.answers.Listed.{Listed}
@@ -65,11 +67,23 @@ listing = listing_as false
 abbrev pub operator_listing : List ℕ → List ℕ → List ℕ → Listing
 operator_listing = listing_as true
 
+-- What a list call answers; how many tickets were accepted and how many refused, none if the list is refused.
+abbrev pub ListOutcome : Type 0
+ListOutcome = Result Listed Refusal
+
+abbrev pub accepted_in : ListOutcome → ℕ
+accepted_in (Ok listed) = listed.accepted
+accepted_in (Err refusal) = 0
+
+abbrev pub refused_in : ListOutcome → ℕ
+refused_in (Ok listed) = listed.refused
+refused_in (Err refusal) = 0
+
 -- A call answers and leaves this.
-pub record ListAnswered (listed : Listed) (table answers : List ℕ) (whole : Listing) : Type 0 where
-  pub answer : listed.answer ≡ whole.answer
-  pub accepted : listed.accepted ≡ whole.accepted
-  pub refused : listed.refused ≡ whole.refused
+pub record ListAnswered (outcome : ListOutcome) (table answers : List ℕ) (whole : Listing) : Type 0 where
+  pub answer : answer_of outcome ≡ whole.answer
+  pub accepted : accepted_in outcome ≡ whole.accepted
+  pub refused : refused_in outcome ≡ whole.refused
   pub words : table ≡ whole.table
   pub numbers : answers ≡ whole.answers
 
@@ -80,17 +94,17 @@ record_bytes tickets = concat_map bytes_of tickets
 -- What `apply_list` and `apply_each` promise, for all words of a table, bytes of a list and answer bytes: the
 -- answer, and the words and answer bytes that they leave. Demand 3 takes this as a premise, and
 -- proofs/ApplyListTied and proofs/ApplyEachTied of their crates say that it is the contract in the source.
-abbrev pub ListPromise : (before bytes answers : List ℕ) → Listed → (after out : List ℕ) → Type 0
-ListPromise before bytes answers listed after out =
-    ListAnswered listed after out (listing before bytes answers)
+abbrev pub ListPromise : (before bytes answers : List ℕ) → ListOutcome → (after out : List ℕ) → Type 0
+ListPromise before bytes answers outcome after out =
+    ListAnswered outcome after out (listing before bytes answers)
 
 -- What `apply_operator_list` promises: the same of operators' tickets. proofs/OperatorListTied of its crate
 -- says that it is the contract in the source.
-abbrev pub OperatorListPromise : (before bytes answers : List ℕ) → Listed → (after out : List ℕ) → Type 0
-OperatorListPromise before bytes answers listed after out =
-    ListAnswered listed after out (operator_listing before bytes answers)
+abbrev pub OperatorListPromise : (before bytes answers : List ℕ) → ListOutcome → (after out : List ℕ) → Type 0
+OperatorListPromise before bytes answers outcome after out =
+    ListAnswered outcome after out (operator_listing before bytes answers)
 
 -- What `apply_records` promises: the same of its tickets' bytes.
-abbrev pub RecordsPromise : (before : List ℕ) (tickets : List Ticket) (answers : List ℕ) → Listed
+abbrev pub RecordsPromise : (before : List ℕ) (tickets : List Ticket) (answers : List ℕ) → ListOutcome
     → (after out : List ℕ) → Type 0
 RecordsPromise before tickets answers = ListPromise before (record_bytes tickets) answers

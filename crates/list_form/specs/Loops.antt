@@ -28,7 +28,6 @@ pub record AllRun (total : ℕ) (table answers out : List ℕ) (done : Done) : T
   pub words : table ≡ done.table
   pub numbers : out ≡ written done.numbers answers
 
--- The answer of a list of so many tickets by its refusal.
-abbrev pub listed_of : ℕ → ℕ → ℕ → Listed
-listed_of answer tickets accepted =
-    record { answer = answer; accepted = accepted; refused = tickets - accepted }
+-- The answer of a list of so many tickets that is not refused.
+abbrev pub listed_of : ℕ → ℕ → Listed
+listed_of tickets accepted = record { accepted = accepted; refused = tickets - accepted }

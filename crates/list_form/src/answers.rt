@@ -1,34 +1,29 @@
 // The answers of a list: its refusal, a ticket's number in its byte, the counts.
 ghost use Rattle.std.specs.Prelude.{◌≡◌, ◌≤◌, ◌<◌, length, set};
+ghost use Rattle.table.specs.Refused.{answer_of};
 ghost use Rattle.list_form.specs.Listing.{refusal_of};
 ghost use Rattle.list_form.specs.Loops.{accepted_after, listed_of};
 
 use consistency::check;
-use table::{FEW_ANSWERS, Word};
+use table::{Refusal, Word};
 
-// What a list call answers: 0 or a refusal, and how many tickets were accepted and how many refused, both 0
-// on refusal.
+// What a list call answers that is not refused: how many tickets were accepted and how many refused.
 #[derive(Clone, Copy)]
 pub struct Listed {
-    pub answer: u8,
     pub accepted: usize,
     pub refused: usize,
 }
 
-// The first of refusals 1, 2, 3 and 14 whose condition holds, or 0, of a list of this many tickets with room
-// for so many answers. The table keeps its words.
-pub fn list_refusal(table: &mut [Word], tickets: usize, room: usize) -> u8
-    ensures answer { result ≡ refusal_of table.old tickets room }
-    ensures words { table.new ≡ table.old }
+// The first of refusals 1, 2, 3 and 14 whose condition holds, if one does, of a list of this many tickets with
+// room for so many answers.
+pub fn check_list(table: &[Word], tickets: usize, room: usize) -> Result<(), Refusal>
+    ensures answer { answer_of result ≡ refusal_of table.now tickets room }
 {
-    let answer = check(table);
-    if answer != 0 {
-        return answer;
-    }
+    check(table)?;
     if room < tickets {
-        return FEW_ANSWERS;
+        return Err(Refusal::FewAnswers);
     }
-    0
+    Ok(())
 }
 
 // A ticket's number goes to its byte, the one at its place in the list. The answer is how many are accepted
@@ -46,13 +41,12 @@ pub fn put_answer(answers: &mut [u8], place: usize, accepted: usize, number: u8)
     accepted
 }
 
-// The answer of a list by its refusal, and by how many of its tickets are accepted.
-pub fn sum_up(answer: u8, tickets: usize, accepted: usize) -> Listed
+// The answer of a list by how many of its tickets are accepted.
+pub fn sum_up(tickets: usize, accepted: usize) -> Listed
     requires bound { accepted ≤ tickets }
-    ensures answer { result ≡ listed_of answer tickets accepted }
+    ensures answer { result ≡ listed_of tickets accepted }
 {
     Listed {
-        answer,
         accepted,
         refused: tickets - accepted,
     }

@@ -15,11 +15,11 @@ ghost use Rattle.ticket.specs.Answered.{Answered};
 ghost use Rattle.operators.specs.Operator.{is_past_seven, is_barred};
 
 use consistency::check;
-use table::{GUARDED, INDIVIDUAL, LITERAL, MEMBER, NOT_FOR_OPERATORS, VALUE, Word};
-use ticket::{Applied, apply_checked, refused};
-use ticket_form::{RECORD, Ticket, decode, form_refusal, wide};
+use table::{INDIVIDUAL, LITERAL, MEMBER, Refusal, VALUE, Word};
+use ticket::{Applied, apply_checked};
+use ticket_form::{RECORD, Ticket, check_fields, decode, wide};
 
-// Who sends a ticket.
+// Who sends a ticket: a flag and no enum, as `step_as` of the definitions takes it.
 pub const OPERATOR: bool = true;
 
 pub const ANYONE: bool = false;
@@ -28,25 +28,14 @@ pub const ANYONE: bool = false;
 fn is_not_for_operators(ticket: Ticket) -> bool
     ensures answer { result ≡ not_for_operators (sense ticket) }
 {
-    let k = wide(ticket.kind);
-    match k {
-        INDIVIDUAL => false,
-        LITERAL => false,
-        MEMBER => false,
-        VALUE => false,
-        _ => true,
-    }
+    !matches!(wide(ticket.kind), INDIVIDUAL | LITERAL | MEMBER | VALUE)
 }
 
 // None of refusals 5 to 7 holds; 8, which comes after 17, may.
 fn is_past_seven(ticket: Ticket) -> bool
     ensures answer { result ≡ is_past_seven (sense ticket) }
 {
-    let form = form_refusal(ticket);
-    if form == GUARDED {
-        return true;
-    }
-    form == 0
+    check_fields(ticket).is_ok()
 }
 
 // Refusal 17 on a consistent table: the kind is not for operators, and none of 4 to 7 holds.
@@ -57,36 +46,26 @@ fn is_barred(ticket: &[u8]) -> bool
         return false;
     }
     let decoded = decode(ticket);
-    let other = is_not_for_operators(decoded);
-    if other {
-        return is_past_seven(decoded);
-    }
-    false
+    is_not_for_operators(decoded) && is_past_seven(decoded)
 }
 
 // One ticket of an operator, or of anyone, on a table known to be consistent.
-pub fn apply_as(operator: bool, table: &mut [Word], ticket: &[u8]) -> Applied
+pub fn apply_as(operator: bool, table: &mut [Word], ticket: &[u8]) -> Result<Applied, Refusal>
     requires table { Table product table.old }
     ensures answer { Answered result table.new (step_as operator product table.old
         ticket.now) }
 {
-    if operator {
-        let barred = is_barred(ticket);
-        if barred {
-            return refused(NOT_FOR_OPERATORS);
-        }
+    if operator && is_barred(ticket) {
+        return Err(Refusal::NotForOperators);
     }
     apply_checked(table, ticket)
 }
 
 // One ticket of an operator, whatever its bytes, on the words of a table, whatever they are.
-pub fn apply_operator(table: &mut [Word], ticket: &[u8]) -> Applied
+pub fn apply_operator(table: &mut [Word], ticket: &[u8]) -> Result<Applied, Refusal>
     ensures answer { Answered result table.new (operator_step product table.old
         ticket.now) }
 {
-    let answer = check(table);
-    if answer != 0 {
-        return refused(answer);
-    }
+    check(table)?;
     apply_as(OPERATOR, table, ticket)
 }

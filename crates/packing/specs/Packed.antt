@@ -1,5 +1,8 @@
 -- What a call across the C interface answers, packed into one number.
-use Rattle.std.specs.Prelude.{ℕ, ◌+◌, ◌*◌, ◌/◌, ◌%◌, cond, eqb}
+use Rattle.std.specs.Prelude.{ℕ, ◌+◌, ◌*◌, ◌/◌, ◌%◌, cond, eqb, Result, Ok, Err}
+use Rattle.table.specs.declared.refusals.Refusal.{Refusal}
+use Rattle.table.specs.Refused.{number}
+use Rattle.packing.specs.declared.Told.{Told}
 
 -- The values of a number of 16 bits.
 abbrev pub sixteen_bits : ℕ
@@ -9,6 +12,11 @@ sixteen_bits = 65536
 abbrev pub packed : ℕ → ℕ → ℕ → ℕ → ℕ
 packed answer added removed length =
     answer + sixteen_bits * (added + sixteen_bits * (removed + sixteen_bits * length))
+
+-- What a call tells after 0; a refusal with the other three 0.
+abbrev pub packed_outcome : Result Told Refusal → ℕ
+packed_outcome (Ok told) = packed 0 told.second told.third told.fourth
+packed_outcome (Err refusal) = packed (number refusal) 0 0 0
 
 -- The answer, the facts added, the facts removed and the image's length in such a number.
 abbrev pub answer_in : ℕ → ℕ

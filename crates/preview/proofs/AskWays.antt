@@ -7,12 +7,16 @@ use mathlib.Core.List.{List, ◌++◌}
 use native.Mathlib.Omega.{arith}
 use lib.Dec.{T, eqb, ltb, eqb→eq, ltb→lt, lt→ltb}
 use lib.ListN.{length, drop}
+use Rattle.std.specs.Prelude.{Err}
 use Rattle.rdfs.specs.Numbers.{Numbers, product}
 use Rattle.rdfs.specs.Register.{Answer, step, refused_with, Table}
 use Rattle.rdfs.proofs.Lists.Tests.{or_either, either_or}
 use Rattle.rdfs.proofs.Lists.Filters.{cond_yes, cond_no}
-use Rattle.ticket.specs.Answered.{Answered, AnsweredAs, refused_answer}
-use Rattle.ticket.specs.declared.answer.Applied.{Applied}
+use Rattle.table.specs.declared.refusals.Refusal.{Refusal}
+use Rattle.table.specs.declared.refusals.Refusal.TheVariants.{ShortOutput}
+use Rattle.table.specs.Refused.{number, answer_of}
+use Rattle.ticket.specs.Answered.{Outcome, added_by, removed_by, Answered, AnsweredAs}
+use Rattle.ticket.proofs.CallAnswers.{refused_some}
 use Rattle.preview.specs.Previews.{
   added_words,
   removed_words,
@@ -60,10 +64,10 @@ module _ (N : Numbers) (w bytes added removed : List ℕ) where
     pub asked_shown : (T (short_run N w bytes added removed) → ⊥) → asking N w bytes added removed ≡ shown
     asked_shown h = asked_accepted ∙ cond_no (short_run N w bytes added removed) (not_asked 13 added removed) shown h
 
--- A call that is refused answers the number alone.
-pub previewed_refused : {r : Applied} {n : ℕ} {added removed : List ℕ} {x : Asked} → r ≡ refused_answer n
-    → x ≡ not_asked n added removed → Previewed r added removed x
-previewed_refused e q = rw (e, q) record {
+-- A call that is refused answers the refusal alone.
+pub previewed_refused : {added removed : List ℕ} {x : Asked} (refusal : Refusal) → x ≡ not_asked (number refusal) added removed
+    → Previewed (Err refusal) added removed x
+previewed_refused refusal q = rw q record {
   number = refl;
   added_count = refl;
   removed_count = refl;
@@ -72,12 +76,20 @@ previewed_refused e q = rw (e, q) record {
 }
 
 -- Refused by the table.
-pub way_table : (w bytes added removed : List ℕ) {n : ℕ} {r : Applied} → step product w bytes ≡ refused_with n w → (n ≡ 0 → ⊥)
-    → r ≡ refused_answer n → AskPromise w bytes added removed r added removed
-way_table w bytes added removed {n} e d q =
-    let number : (step product w bytes).number ≡ n = ap (λ x. x.number) e in
-    previewed_refused q (asked_refused product w bytes added removed (λ z. d (sym number ∙ z))
-    ∙ ap (λ m. not_asked m added removed) number)
+pub way_table : (w bytes added removed : List ℕ) (refusal : Refusal) → step product w bytes ≡ refused_with (number refusal) w
+    → AskPromise w bytes added removed (Err refusal) added removed
+way_table w bytes added removed refusal e =
+    let is : (step product w bytes).number ≡ number refusal = ap (λ x. x.number) e in
+    previewed_refused refusal (asked_refused product w bytes added removed (λ z. refused_some refusal (sym is ∙ z))
+    ∙ ap (λ m. not_asked m added removed) is)
+
+-- Refused by the ticket.
+pub way_ticket : (bytes added removed : List ℕ) {w w' v : List ℕ} (refusal : Refusal) → Table product w → w' ≡ w
+    → AnsweredAs false (Err refusal) v (step product w' bytes) → AskPromise w bytes added removed (Err refusal) added removed
+way_ticket bytes added removed {w} refusal t copied did =
+    let is : number refusal ≡ (step product w bytes).number = (trial_numbers bytes (Err refusal) t copied did).number in
+    previewed_refused refusal (asked_refused product w bytes added removed (λ z. refused_some refusal (is ∙ z))
+    ∙ ap (λ m. not_asked m added removed) (sym is))
 
 -- Words stored at the front of a run.
 pub written_front : {table other x : List ℕ} {n : ℕ} (run : List ℕ) → Missing table other n → x ≡ missing table other
@@ -85,39 +97,33 @@ pub written_front : {table other x : List ℕ} {n : ℕ} (run : List ℕ) → Mi
 written_front {table} {other} {x} {n} run m e = λ i. e i ++ drop (m.many i) run
 
 -- The copy w', the answer a and the words v that the ticket left.
-module _ (bytes added removed : List ℕ) {w w' v : List ℕ} (a : Applied) (t : Table product w) (copied : w' ≡ w)
+module _ (bytes added removed : List ℕ) {w w' v : List ℕ} (a : Outcome) (t : Table product w) (copied : w' ≡ w)
     (did : AnsweredAs false a v (step product w' bytes)) where
   abbrev numbers : Answered a (step product w bytes).table (step product w bytes)
   numbers = trial_numbers bytes a t copied did
 
-  -- Refused by the ticket.
-  pub way_ticket : {r : Applied} → (a.answer ≡ 0 → ⊥) → r ≡ refused_answer a.answer
-      → AskPromise w bytes added removed r added removed
-  way_ticket n q = previewed_refused q (asked_refused product w bytes added removed (λ z. n (numbers.number ∙ z))
-      ∙ ap (λ m. not_asked m added removed) (sym numbers.number))
-
-  module _ (z : a.answer ≡ 0) where
+  module _ (z : answer_of a ≡ 0) where
     accepted : (step product w bytes).number ≡ 0
     accepted = trial_accepted bytes a t copied did z
 
-    added_length : a.added ≡ length (added_words product w bytes)
+    added_length : added_by a ≡ length (added_words product w bytes)
     added_length = (tried bytes a t copied did z).came.many ∙ ap (λ x. length (missing x w)) (trial_words bytes a t copied did z)
 
-    removed_length : a.removed ≡ length (removed_words product w bytes)
+    removed_length : removed_by a ≡ length (removed_words product w bytes)
     removed_length = (tried bytes a t copied did z).went.many
         ∙ ap (λ x. length (missing w x)) (trial_words bytes a t copied did z)
 
     -- A run is too short.
-    pub way_short : {r : Applied} → (length added < a.added) ⊎ (length removed < a.removed) → r ≡ refused_answer 13
-        → AskPromise w bytes added removed r added removed
-    way_short h q = previewed_refused q (asked_short product w bytes added removed accepted
+    pub way_short : (length added < added_by a) ⊎ (length removed < removed_by a)
+        → AskPromise w bytes added removed (Err ShortOutput) added removed
+    way_short h = previewed_refused ShortOutput (asked_short product w bytes added removed accepted
         (either_or (ltb (length added) (length (added_words product w bytes)))
         (ltb (length removed) (length (removed_words product w bytes)))
         (⊎_elim (λ l. inl (lt→ltb (length added) (length (added_words product w bytes)) (omega (arith, l, added_length))))
         (λ l. inr (lt→ltb (length removed) (length (removed_words product w bytes)) (omega (arith, l, removed_length)))) h)))
 
     -- Both are long enough; the words stand at their fronts.
-    pub way_asked : {added' removed' : List ℕ} → a.added ≤ length added → a.removed ≤ length removed
+    pub way_asked : {added' removed' : List ℕ} → added_by a ≤ length added → removed_by a ≤ length removed
         → added' ≡ written (missing v w) added → removed' ≡ written (missing w v) removed
         → AskPromise w bytes added removed a added' removed'
     way_asked {added'} {removed'} l k p q =

@@ -4,14 +4,17 @@ use mathlib.Core.Path.{◌≡◌, sym, ap, subst, ◌∙◌}
 use mathlib.Core.Bool.{Bool, true, false, not, ◌&&◌}
 use mathlib.Core.List.{List}
 use lib.Dec.{T, eqb, eqb→eq}
+use Rattle.std.specs.Prelude.{Err}
 use Rattle.rdfs.specs.Numbers.{Numbers, product}
 use Rattle.rdfs.specs.Register.{step, refused_with, Table}
 use Rattle.rdfs.proofs.Lists.Tests.{and_both, both_and}
 use Rattle.rdfs.proofs.Lists.Filters.{cond_yes, cond_no}
 use Rattle.rdfs.proofs.Tickets.Steps.{refused_keeps}
-use Rattle.ticket.specs.Answered.{Answered, AnsweredAs, refused_answer}
-use Rattle.ticket.specs.declared.answer.Applied.{Applied}
-use Rattle.ticket.proofs.CallAnswers.{answered_refused}
+use Rattle.table.specs.declared.refusals.Refusal.{Refusal}
+use Rattle.table.specs.declared.refusals.Refusal.TheVariants.{OutOfDate}
+use Rattle.table.specs.Refused.{number, answer_of}
+use Rattle.ticket.specs.Answered.{Outcome, Answered, AnsweredAs}
+use Rattle.ticket.proofs.CallAnswers.{refused_some, answered_refused}
 use Rattle.preview.specs.Previews.{out_of_date, committing}
 use Rattle.preview.specs.PreviewPromises.{CommitPromise}
 use Rattle.preview.specs.Tried.{is_current}
@@ -47,37 +50,37 @@ refused_is N w bytes n =
     λ i. record { number = (step N w bytes).number; added = k.added i; removed = k.removed i; table = k.table i }
 
 -- Refused by the table.
-pub way_table : (w bytes added removed : List ℕ) {n : ℕ} {r : Applied} → step product w bytes ≡ refused_with n w → (n ≡ 0 → ⊥)
-    → r ≡ refused_answer n → CommitPromise w bytes added removed r w
-way_table w bytes added removed {n} e d q =
-    let number : (step product w bytes).number ≡ n = ap (λ x. x.number) e in
-    answered_refused q (committed_refused product w bytes added removed (λ z. d (sym number ∙ z)) ∙ e)
+pub way_table : (w bytes added removed : List ℕ) (refusal : Refusal) → step product w bytes ≡ refused_with (number refusal) w
+    → CommitPromise w bytes added removed (Err refusal) w
+way_table w bytes added removed refusal e =
+    let is : (step product w bytes).number ≡ number refusal = ap (λ x. x.number) e in
+    answered_refused refusal (committed_refused product w bytes added removed (λ z. refused_some refusal (sym is ∙ z)) ∙ e)
+
+-- Refused by the ticket.
+pub way_ticket : (bytes added removed : List ℕ) {w w' v : List ℕ} (refusal : Refusal) → Table product w → w' ≡ w
+    → AnsweredAs false (Err refusal) v (step product w' bytes) → CommitPromise w bytes added removed (Err refusal) w
+way_ticket bytes added removed {w} refusal t copied did =
+    let is : number refusal ≡ (step product w bytes).number = (trial_numbers bytes (Err refusal) t copied did).number in
+    let some : (step product w bytes).number ≡ 0 → ⊥ = λ z. refused_some refusal (is ∙ z) in
+    answered_refused refusal (committed_refused product w bytes added removed some ∙ (refused_is product w bytes some
+    ∙ ap (λ m. refused_with m w) (sym is)))
 
 -- The copy w', the answer a and the words v that the ticket left.
-module _ (bytes added removed : List ℕ) {w w' v : List ℕ} (a : Applied) (t : Table product w) (copied : w' ≡ w)
+module _ (bytes added removed : List ℕ) {w w' v : List ℕ} (a : Outcome) (t : Table product w) (copied : w' ≡ w)
     (did : AnsweredAs false a v (step product w' bytes)) where
   abbrev numbers : Answered a (step product w bytes).table (step product w bytes)
   numbers = trial_numbers bytes a t copied did
 
-  -- Refused by the ticket.
-  pub way_ticket : {r : Applied} → (a.answer ≡ 0 → ⊥) → r ≡ refused_answer a.answer
-      → CommitPromise w bytes added removed r w
-  way_ticket n q =
-      let kept : step product w bytes ≡ refused_with a.answer w = refused_is product w bytes (λ z. n (numbers.number ∙ z))
-      ∙ ap (λ m. refused_with m w) (sym numbers.number) in
-      answered_refused q (committed_refused product w bytes added removed (λ z. n (numbers.number ∙ z)) ∙ kept)
-
-  module _ (z : a.answer ≡ 0) where
+  module _ (z : answer_of a ≡ 0) where
     words : v ≡ (step product w bytes).table
     words = trial_words bytes a t copied did z
 
     -- The runs are not what came and went.
-    pub way_stale : {r : Applied} → false ≡ is_current w v added removed → r ≡ refused_answer 18
-        → CommitPromise w bytes added removed r w
-    way_stale e q =
+    pub way_stale : false ≡ is_current w v added removed → CommitPromise w bytes added removed (Err OutOfDate) w
+    way_stale e =
         let old : false ≡ is_current w (step product w bytes).table added removed =
         e ∙ ap (λ x. is_current w x added removed) words in
-        answered_refused q (committed_stale product w bytes added removed (trial_accepted bytes a t copied did z)
+        answered_refused OutOfDate (committed_stale product w bytes added removed (trial_accepted bytes a t copied did z)
         (subst (λ b. T (not b)) old tt))
 
     -- They are.

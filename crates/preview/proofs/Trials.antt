@@ -11,15 +11,15 @@ use Rattle.rdfs.specs.Words.{laid_out}
 use Rattle.rdfs.specs.Register.{step, Table}
 use Rattle.rdfs.proofs.Register.AfterEach.{after}
 use Rattle.rdfs.proofs.Theorems.{product_sound}
-use Rattle.ticket.specs.Answered.{Answered, AnsweredAs}
-use Rattle.ticket.specs.declared.answer.Applied.{Applied}
+use Rattle.table.specs.Refused.{answer_of}
+use Rattle.ticket.specs.Answered.{Outcome, added_by, removed_by, Answered, AnsweredAs}
 use Rattle.differences.specs.Besides.{missing, Missing}
 use Rattle.preview.specs.Tried.{Tried}
 use Rattle.preview.proofs.StepWords.{added_is, removed_is}
 use Rattle.differences.proofs.Matching.{same_false}
 
 -- The copy w', the answer a and the words v that the ticket left.
-module _ (bytes : List ℕ) {w w' v : List ℕ} (a : Applied) (t : Table product w) (copied : w' ≡ w)
+module _ (bytes : List ℕ) {w w' v : List ℕ} (a : Outcome) (t : Table product w) (copied : w' ≡ w)
     (did : AnsweredAs false a v (step product w' bytes)) where
   trial : AnsweredAs false a v (step product w bytes)
   trial = subst (λ x. AnsweredAs false a v (step product x bytes)) copied did
@@ -27,14 +27,14 @@ module _ (bytes : List ℕ) {w w' v : List ℕ} (a : Applied) (t : Table product
   pub trial_numbers : Answered a (step product w bytes).table (step product w bytes)
   trial_numbers = trial.numbers
 
-  module _ (z : a.answer ≡ 0) where
+  module _ (z : answer_of a ≡ 0) where
     pub trial_accepted : (step product w bytes).number ≡ 0
     trial_accepted = sym trial.numbers.number ∙ z
 
     pub trial_words : v ≡ (step product w bytes).table
     trial_words = trial.words (subst (λ n. T (eqb n 0)) (sym trial_accepted) tt)
 
-    pub tried : Tried w v a.added a.removed
+    pub tried : Tried w v (added_by a) (removed_by a)
     tried =
         let laid : T (laid_out product 1 v) =
         subst (λ x. T (laid_out product 1 x)) (sym trial_words) (after product product_sound w bytes t).rules.laid in
@@ -65,6 +65,3 @@ first_differs a b e = ap (λ x. x && b) e
 pub second_differs : (a b : Bool) → false ≡ b → false ≡ (a && b)
 second_differs true b e = e
 second_differs false b e = λ i. false
-
-pub second_decides : (a b : Bool) {c : Bool} → true ≡ a → c ≡ b → c ≡ (a && b)
-second_decides a b e q = q ∙ ap (λ x. x && b) e

@@ -18,8 +18,8 @@ ghost use Rattle.preview.specs.Tried.{Tried, is_current};
 
 use consistency::check;
 use differences::{is_missing, put_missing};
-use table::{MOST, OUT_OF_DATE, SHORT_OUTPUT, Word, copy_words};
-use ticket::{Applied, refused, try_ticket};
+use table::{MOST, Refusal, Word};
+use ticket::{Applied, try_ticket};
 
 // Whether runs are exactly the words of the new table that the old lacks and those of the old that the new
 // lacks; the answer has how many these are.
@@ -34,17 +34,10 @@ fn is_current(
     ensures answer { result ≡ is_current old.now new.now added.now
         removed.now }
 {
-    if added.len() != applied.added as usize {
+    if added.len() != applied.added as usize || removed.len() != applied.removed as usize {
         return false;
     }
-    if removed.len() != applied.removed as usize {
-        return false;
-    }
-    let same = is_missing(new, old, added);
-    if same {
-        return is_missing(old, new, removed);
-    }
-    false
+    is_missing(new, old, added) && is_missing(old, new, removed)
 }
 
 // Asks on a work table of the table's length.
@@ -54,54 +47,47 @@ fn ask_on(
     ticket: &[u8],
     added: &mut [Word],
     removed: &mut [Word],
-) -> Applied
+) -> Result<Applied, Refusal>
     requires table { Table product table.now }
     requires work { length work.old ≡ length table.now }
     ensures answer { AskPromise table.now ticket.now added.old
         removed.old result added.new removed.new }
 {
-    copy_words(table, work);
-    let asked = try_ticket(work, ticket);
-    if asked.answer != 0 {
-        return refused(asked.answer);
-    }
+    work.copy_from_slice(table);
+    let asked = try_ticket(work, ticket)?;
     let coming = asked.added as usize;
     if added.len() < coming {
-        return refused(SHORT_OUTPUT);
+        return Err(Refusal::ShortOutput);
     }
     let going = asked.removed as usize;
     if removed.len() < going {
-        return refused(SHORT_OUTPUT);
+        return Err(Refusal::ShortOutput);
     }
     put_missing(work, table, &mut added[..coming]);
     put_missing(table, work, &mut removed[..going]);
-    asked
+    Ok(asked)
 }
 
-// Commits by a work table of the table's length.
+// Commits by a work table of the table's length. Beside `ask_on`: what is done after the trial differs.
 fn commit_on(
     table: &mut [Word],
     work: &mut [Word],
     ticket: &[u8],
     added: &[Word],
     removed: &[Word],
-) -> Applied
+) -> Result<Applied, Refusal>
     requires table { Table product table.old }
     requires work { length work.old ≡ length table.old }
     ensures answer { CommitPromise table.old ticket.now added.now
         removed.now result table.new }
 {
-    copy_words(table, work);
-    let applied = try_ticket(work, ticket);
-    if applied.answer != 0 {
-        return refused(applied.answer);
+    work.copy_from_slice(table);
+    let applied = try_ticket(work, ticket)?;
+    if !is_current(table, work, applied, added, removed) {
+        return Err(Refusal::OutOfDate);
     }
-    let current = is_current(table, work, applied, added, removed);
-    if current {
-        copy_words(work, table);
-        return applied;
-    }
-    refused(OUT_OF_DATE)
+    table.copy_from_slice(work);
+    Ok(applied)
 }
 
 // Asking on a table known to be consistent.
@@ -110,7 +96,7 @@ pub fn ask_checked(
     ticket: &[u8],
     added: &mut [Word],
     removed: &mut [Word],
-) -> Applied
+) -> Result<Applied, Refusal>
     requires table { Table product table.now }
     ensures answer { AskPromise table.now ticket.now added.old
         removed.old result added.new removed.new }
@@ -125,7 +111,7 @@ pub fn commit_checked(
     ticket: &[u8],
     added: &[Word],
     removed: &[Word],
-) -> Applied
+) -> Result<Applied, Refusal>
     requires table { Table product table.old }
     ensures answer { CommitPromise table.old ticket.now added.now
         removed.now result table.new }
@@ -138,26 +124,30 @@ pub fn commit_checked(
 // What one ticket would do, whatever its bytes, on the words of a table, whatever they are. The words that
 // would come and go are written to the front of the runs, ascending, and the words past them stay. Answers as
 // the single call would, with 13 after 11 if a run is too short; refused, both runs are as they were.
-pub fn ask(table: &[Word], ticket: &[u8], added: &mut [Word], removed: &mut [Word]) -> Applied
+pub fn ask(
+    table: &[Word],
+    ticket: &[u8],
+    added: &mut [Word],
+    removed: &mut [Word],
+) -> Result<Applied, Refusal>
     ensures answer { AskPromise table.now ticket.now added.old
         removed.old result added.new removed.new }
 {
-    let answer = check(table);
-    if answer != 0 {
-        return refused(answer);
-    }
+    check(table)?;
     ask_checked(table, ticket, added, removed)
 }
 
 // Carries one ticket out if the runs, whole, are exactly what it would do to the table now; else refuses with
 // 18 after 11. In all else it is the single call.
-pub fn commit(table: &mut [Word], ticket: &[u8], added: &[Word], removed: &[Word]) -> Applied
+pub fn commit(
+    table: &mut [Word],
+    ticket: &[u8],
+    added: &[Word],
+    removed: &[Word],
+) -> Result<Applied, Refusal>
     ensures answer { CommitPromise table.old ticket.now added.now
         removed.now result table.new }
 {
-    let answer = check(table);
-    if answer != 0 {
-        return refused(answer);
-    }
+    check(table)?;
     commit_checked(table, ticket, added, removed)
 }

@@ -1,7 +1,7 @@
 -- What is proved of the call `ask`: all that is known of what it answers and of the runs that it leaves is its contract,
 -- `AskPromise`, and of the single call its contract, `ApplyPromise`. Assumes nothing.
 use Prim.Native.Nat.{ℕ}
-use mathlib.Core.Path.{◌≡◌, refl, sym, ap, subst, ◌∙◌}
+use mathlib.Core.Path.{◌≡◌, sym, ap, subst, ◌∙◌}
 use mathlib.Core.Bool.{not}
 use mathlib.Core.List.{List}
 use native.Mathlib.Decide.{ℕ_discrete}
@@ -9,7 +9,7 @@ use lib.Dec.{T, T_not, not_T}
 use lib.ListN.{length, take}
 use lib.Seq.{take-append_seam}
 use Rattle.rdfs.specs.Numbers.{product}
-use Rattle.rdfs.specs.Lists.{◌∈◌, member, Ascending}
+use Rattle.rdfs.specs.Lists.{member, Ascending}
 use Rattle.rdfs.specs.Words.{filled}
 use Rattle.rdfs.specs.Tickets.{decoded, inserts, deletes}
 use Rattle.rdfs.specs.Refusals.{First}
@@ -22,8 +22,8 @@ use Rattle.rdfs.proofs.Words.LaidOut.{laid_ascending}
 use Rattle.rdfs.proofs.Tickets.Steps.{refused_keeps}
 use Rattle.rdfs.proofs.Register.AfterEach.{after}
 use Rattle.rdfs.proofs.Theorems.{product_sound}
-use Rattle.ticket.specs.Answered.{ApplyPromise}
-use Rattle.ticket.specs.declared.answer.Applied.{Applied}
+use Rattle.table.specs.Refused.{answer_of}
+use Rattle.ticket.specs.Answered.{Outcome, added_by, removed_by, ApplyPromise}
 use Rattle.preview.specs.Previews.{
   added_words,
   removed_words,
@@ -54,22 +54,22 @@ newcomers_differ has lacks a = record {
 }
 
 -- Asking: a table w, a ticket b, the runs before and after, and the answer r.
-module _ (w b added removed added' removed' : List ℕ) (r : Applied) (p : AskPromise w b added removed r added' removed') where
+module _ (w b added removed added' removed' : List ℕ) (r : Outcome) (p : AskPromise w b added removed r added' removed') where
   -- The answer is 0 or the first refusal that holds, in the order 1 to 11 of the single call, then 13.
-  pub ask_call_first : First (ask_tests w b added removed) r.answer
+  pub ask_call_first : First (ask_tests w b added removed) (answer_of r)
   ask_call_first = subst (First (ask_tests w b added removed)) (sym p.number) (ask_order product w b added removed)
 
   -- 13 exactly if the ticket would be accepted and a run is shorter than the words to go to it.
-  pub ask_call_thirteen : (r.answer ≡ 13 → ((step product w b).number ≡ 0) × T (short_run product w b added removed))
-      × ((step product w b).number ≡ 0 → T (short_run product w b added removed) → r.answer ≡ 13)
+  pub ask_call_thirteen : (answer_of r ≡ 13 → ((step product w b).number ≡ 0) × T (short_run product w b added removed))
+      × ((step product w b).number ≡ 0 → T (short_run product w b added removed) → answer_of r ≡ 13)
   ask_call_thirteen = (
     (λ e. thirteen_by product w b added removed (sym p.number ∙ e)),
     (λ z h. p.number ∙ ap (λ a. a.number) (asked_short product w b added removed z h)),
   )
 
   -- Refused, the runs are as they were, and both counts are 0.
-  pub ask_call_writes_nothing : (r.answer ≡ 0 → ⊥) → (added' ≡ added) × (removed' ≡ removed) × (r.added ≡ 0)
-      × (r.removed ≡ 0)
+  pub ask_call_writes_nothing : (answer_of r ≡ 0 → ⊥) → (added' ≡ added) × (removed' ≡ removed) × (added_by r ≡ 0)
+      × (removed_by r ≡ 0)
   ask_call_writes_nothing d =
       let e = ask_refused product w b added removed (λ z. d (p.number ∙ z)) in (
         p.added_run ∙ ap (λ a. a.added_run) e,
@@ -79,8 +79,8 @@ module _ (w b added removed added' removed' : List ℕ) (r : Applied) (p : AskPr
       )
 
   -- Unless it is refused with 13, it answers as the single call x does.
-  pub asked_as_single : (x : Applied) (v : List ℕ) → ApplyPromise w b x v → (r.answer ≡ 13 → ⊥) → Same r x
-  asked_as_single x v a d = elim (ℕ_discrete r.answer 0) [
+  pub asked_as_single : (x : Outcome) (v : List ℕ) → ApplyPromise w b x v → (answer_of r ≡ 13 → ⊥) → Same r x
+  asked_as_single x v a d = elim (ℕ_discrete (answer_of r) 0) [
     | yes z ↦ let s = asked_is product w b added removed (sym p.number ∙ z) in
         record {
           answer = z ∙ sym (a.number ∙ s.accepted);
@@ -90,7 +90,7 @@ module _ (w b added removed added' removed' : List ℕ) (r : Applied) (p : AskPr
     | no n ↦ refused_alike x v a d n
   ]
     where
-      refused_alike : (x : Applied) (v : List ℕ) → ApplyPromise w b x v → (r.answer ≡ 13 → ⊥) → (r.answer ≡ 0 → ⊥) → Same r x
+      refused_alike : (x : Outcome) (v : List ℕ) → ApplyPromise w b x v → (answer_of r ≡ 13 → ⊥) → (answer_of r ≡ 0 → ⊥) → Same r x
       refused_alike x v a d n = elim (ℕ_discrete (step product w b).number 0) [
         | yes z ↦ absurd (both z)
         | no q ↦ let e = asked_refused product w b added removed q in
@@ -109,32 +109,32 @@ module _ (w b added removed added' removed' : List ℕ) (r : Applied) (p : AskPr
           ]
 
   -- Asked and not refused.
-  module _ (z : r.answer ≡ 0) where
+  module _ (z : answer_of r ≡ 0) where
     was : Shown product w b added removed
     was = asked_is product w b added removed (sym p.number ∙ z)
 
     table : Table product w
     table = accepted_table product w b was.accepted
 
-    added_count_lem : r.added ≡ length (added_words product w b)
+    added_count_lem : added_by r ≡ length (added_words product w b)
     added_count_lem = p.added_count ∙ (ap (λ y. y.added) was.all ∙ added_is product product_sound w b table was.accepted)
 
-    removed_count_lem : r.removed ≡ length (removed_words product w b)
+    removed_count_lem : removed_by r ≡ length (removed_words product w b)
     removed_count_lem = p.removed_count ∙ (ap (λ y. y.removed) was.all
         ∙ removed_is product product_sound w b table was.accepted)
 
     -- The runs, cut to the counts, are the words that would come and go.
-    pub asked_added : take r.added added' ≡ added_words product w b
+    pub asked_added : take (added_by r) added' ≡ added_words product w b
     asked_added = (λ i. take (added_count_lem i) ((p.added_run ∙ ap (λ y. y.added_run) was.all) i))
         ∙ take-append_seam (added_words product w b) _
 
-    pub asked_removed : take r.removed removed' ≡ removed_words product w b
+    pub asked_removed : take (removed_by r) removed' ≡ removed_words product w b
     asked_removed = (λ i. take (removed_count_lem i) ((p.removed_run ∙ ap (λ y. y.removed_run) was.all) i))
         ∙ take-append_seam (removed_words product w b) _
 
     -- They are exactly the difference between the table and the one that the single call leaves, v.
-    pub asked_is_difference : (x : Applied) (v : List ℕ) → ApplyPromise w b x v
-        → Difference (take r.added added') v w × Difference (take r.removed removed') w v
+    pub asked_is_difference : (x : Outcome) (v : List ℕ) → ApplyPromise w b x v
+        → Difference (take (added_by r) added') v w × Difference (take (removed_by r) removed') w v
     asked_is_difference x v a =
         let laid : Ascending (filled v) = laid_ascending product v
         (subst (Table product) (sym a.words) (after product product_sound w b table).rules).laid in (
@@ -145,7 +145,7 @@ module _ (w b added removed added' removed' : List ℕ) (r : Applied) (p : AskPr
         )
 
   -- Asking again with the runs that it left says the same and leaves the same.
-  pub asked_twice : (q : Applied) (added'' removed'' : List ℕ) → AskPromise w b added' removed' q added'' removed''
+  pub asked_twice : (q : Outcome) (added'' removed'' : List ℕ) → AskPromise w b added' removed' q added'' removed''
       → Same q r × (added'' ≡ added') × (removed'' ≡ removed')
   asked_twice q added'' removed'' again =
       let same : asking product w b added' removed' ≡ asking product w b added removed = once in (

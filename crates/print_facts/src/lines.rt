@@ -23,14 +23,11 @@ fn put_lines(table: &[Word], out: &mut [u8]) -> usize
     requires room { 11 * length table.now ≤ length out.old }
     ensures printed { WordsPrinted (filled table.now) result out.new }
 {
-    let mut place = 0;
     let mut at = 0;
-    while place < table.len() {
-        let word = table[place];
+    for &word in table {
         if word != 0 {
             at = put_line(out, at, word);
         }
-        place += 1;
     }
     at
 }
@@ -41,9 +38,8 @@ fn put_facts(image: &[u8], out: &mut [u8]) -> usize
     requires room { 11 * product.most ≤ length out.old }
     ensures printed { WordsPrinted (words_read image.now) result out.new }
 {
-    let zero: Word = 0;
-    let mut table = [zero; MOST];
-    read(&mut table, image);
+    let mut table: [Word; MOST] = [0; MOST];
+    let _outcome = read(&mut table, image);
     put_lines(&table, out)
 }
 

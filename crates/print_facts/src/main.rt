@@ -7,12 +7,11 @@ mod lines;
 
 use image::LONGEST;
 use lines::put_read;
-use streams::{Filled, read_input, write_output};
+use streams::{read_input, write_output};
 
 fn main(rt: HostRuntime) {
     let mut input = [0u8; LONGEST + 1];
-    let filled = read_input(&rt, b"print_facts", &mut input);
-    let Filled::Read(count) = filled else {
+    let Some(count) = read_input(&rt, b"print_facts", &mut input) else {
         return;
     };
     let mut out = io::large_buffer();

@@ -5,12 +5,11 @@
 
 use exchange::put_image;
 use image::LONGEST;
-use streams::{Filled, read_whole, text_buffer, write_output};
+use streams::{read_whole, text_buffer, write_output};
 
 fn main(rt: HostRuntime) {
     let mut input = text_buffer();
-    let filled = read_whole(&rt, b"read_triples", &mut input);
-    let Filled::Read(count) = filled else {
+    let Some(count) = read_whole(&rt, b"read_triples", &mut input) else {
         return;
     };
     let mut out = [0u8; LONGEST];

@@ -1,8 +1,10 @@
 -- The words of an image stored into a table, kind by kind. Assumes nothing.
-use Prim.Native.Nat.{ℕ, ◌+◌, ◌≤◌, ◌<◌}
+use Prim.Native.Nat.{ℕ, ◌+◌, ◌-◌, ◌≤◌, ◌<◌}
 use mathlib.Core.Path.{◌≡◌, refl, sym, ap, ◌∙◌}
 use mathlib.Core.List.{List, ◌++◌}
 use native.Mathlib.Omega.{arith}
+use borrow.Rule.Slice.PartMut.{put_mid}
+use Rattle.std.proofs.lemmas.Slice.{put_mid-paste}
 use lib.ListN.{length, take, drop, length-append, length-drop}
 use lib.Seq.{take_at, drop-drop, drop-append-add, take-add, take_all, take-length, length-take-le, paste}
 use Rattle.rdfs.specs.Numbers.{product}
@@ -44,9 +46,24 @@ module _ {F : Form} {bytes t₀ t : List ℕ} {done place : ℕ} (f : Filled F b
     body_long : length body ≡ count
     body_long = words_from_length product F bytes (done + 1) count from
 
-    pub filled_more : Legible F → count < field_values F → (t' : List ℕ) → t' ≡ paste t place body count
-        → Filled F bytes t₀ t' (done + 1) (place + count)
-    filled_more legible small t' q =
+    -- The part of the table that the body is stored into.
+    abbrev size : ℕ
+    size = place + count - place
+
+    size_is : size ≡ count
+    size_is = omega arith
+
+    pub part_length : length (take size (drop place t)) ≡ count
+    part_length = ap (λ n. length (take n (drop place t))) size_is
+        ∙ length-take-le count (drop place t) (omega (arith, length-drop place t, filled_room))
+
+    pub filled_more : Legible F → count < field_values F → (part : List ℕ)
+        → part ≡ words_from product F bytes (done + 1) (length (take size (drop place t))) from
+        → Filled F bytes t₀ (put_mid place size t part) (done + 1) (place + count)
+    filled_more legible small part p =
+        let q : put_mid place size t part ≡ paste t place body count =
+        put_mid-paste place size t part body count (p ∙ ap (λ n. words_from product F bytes (done + 1) n from) part_length)
+        (sym size_is) (sym body_long) in
         let low : take place t ≡ take place words =
         ap (take place) f.so_far ∙ take_at (take place words) (drop place t₀) place firsts in
         let all : take count body ≡ body = take_all count body (omega (arith, body_long)) in

@@ -1,11 +1,12 @@
 -- The words of an image counted, and stored into a table: kind by kind, and one kind's fact by fact. Assumes nothing.
 use Prim.Native.Nat.{ℕ, zero, suc, ◌+◌, ◌*◌, ◌-◌, ◌^◌, ◌≤◌, ◌<◌}
 use mathlib.Core.Path.{◌≡◌, sym, ap, ◌∙◌}
-use mathlib.Core.List.{List, [], ◌++◌}
+use mathlib.Core.List.{List, [], ◌++◌, append-nil}
 use native.Mathlib.Omega.{arith}
 use native.Mathlib.Numerals.{add-one}
-use lib.ListN.{length, get_or, set, drop, length-append, length-drop}
-use lib.Seq.{drop_at, drop-drop, paste, paste-zero, paste-suc, length-paste}
+use lib.ListN.{length, get_or, set, drop, length-append, length-drop, drop_of_length-le}
+use lib.Seq.{drop_at, drop-drop, paste, paste-zero, paste-suc}
+use Rattle.std.proofs.lemmas.List.Edits.{paste_all}
 use Rattle.rdfs.specs.Numbers.{product}
 use Rattle.rdfs.specs.Lists.{concat_map}
 use Rattle.contents.specs.ImageForm.{Form, byte_values, field_values, fact_size, kinds_after}
@@ -80,11 +81,11 @@ module _ {F : Form} {bytes : List ℕ} {done place : ℕ} (p : Passed F bytes do
   pub passed_all : F.entries ≤ done → place ≡ length (words F bytes)
   passed_all h = omega (arith, p.fits, length-drop place (words F bytes), ap length (p.rest ∙ later_none F bytes done h))
 
--- The first i facts of a body are stored; the next stands at p.
-module _ (F : Form) (bytes : List ℕ) (k from count : ℕ) where
-  word_there : (i : ℕ) → i < count → get_or (words_from product F bytes k count from) i 0 ≡ word_at product F bytes k
+-- The first i facts of a body are stored, over as many words as there are facts; the next stands at p.
+module _ (F : Form) (bytes : List ℕ) (k from : ℕ) where
+  word_there : (n i : ℕ) → i < n → get_or (words_from product F bytes k n from) i 0 ≡ word_at product F bytes k
       (from + fact_size F k * i)
-  word_there i h = go count i from h
+  word_there n i h = go n i from h
     where
       go : (n i from : ℕ) → i < n → get_or (words_from product F bytes k n from) i 0 ≡ word_at product F bytes k
           (from + fact_size F k * i)
@@ -94,34 +95,39 @@ module _ (F : Form) (bytes : List ℕ) (k from count : ℕ) where
           let same : from + fact_size F k + fact_size F k * i ≡ from + fact_size F k * suc i = omega arith in
           go n i (from + fact_size F k) (omega arith) ∙ ap (word_at product F bytes k) same
 
-  pub record Stored (t₀ : List ℕ) (place : ℕ) (t : List ℕ) (i p : ℕ) : Type 0 where
-    pub within : i ≤ count
+  abbrev all : List ℕ → List ℕ
+  all l₀ = words_from product F bytes k (length l₀) from
+
+  pub record Stored (l₀ l : List ℕ) (i p : ℕ) : Type 0 where
+    pub within : i ≤ length l₀
     pub at : p ≡ from + fact_size F k * i
-    pub so_far : t ≡ paste t₀ place (words_from product F bytes k count from) i
+    pub so_far : l ≡ paste l₀ 0 (all l₀) i
 
-  pub stored_start : (t₀ : List ℕ) (place : ℕ) → Stored t₀ place t₀ 0 from
-  stored_start t₀ place =
-      record { within = omega arith; at = omega arith; so_far = paste-zero t₀ place (words_from product F bytes k count from) }
+  pub stored_start : (l₀ : List ℕ) → Stored l₀ l₀ 0 from
+  stored_start l₀ = record { within = omega arith; at = omega arith; so_far = paste-zero l₀ 0 (all l₀) }
 
-  module _ {t₀ : List ℕ} {place : ℕ} {t : List ℕ} {i p : ℕ} (s : Stored t₀ place t i p) (room : place + count ≤ length t₀) where
-    pub stored_length : length t ≡ length t₀
-    stored_length = ap length s.so_far ∙ length-paste t₀ place (words_from product F bytes k count from) i
-        (omega (arith, s.within)) (omega (arith, s.within, words_from_length product F bytes k count from))
+  module _ {l₀ l : List ℕ} {i p : ℕ} (s : Stored l₀ l i p) where
+    long : length (all l₀) ≡ length l₀
+    long = words_from_length product F bytes k (length l₀) from
 
-    pub stored_more : i < count → (w : ℕ) → w ≡ word_at product F bytes k p → (size : ℕ) → size ≡ fact_size F k
-        → Stored t₀ place (set t (place + i) w) (i + 1) (p + size)
+    pub stored_more : i < length l₀ → (w : ℕ) → w ≡ word_at product F bytes k p → (size : ℕ) → size ≡ fact_size F k
+        → Stored l₀ (set l i w) (i + 1) (p + size)
     stored_more h w e size z =
-        let ws : List ℕ = words_from product F bytes k count from in
-        let same : w ≡ get_or ws i 0 = e ∙ (ap (word_at product F bytes k) s.at ∙ sym (word_there i h)) in
+        let same : w ≡ get_or (all l₀) i 0 = e ∙ (ap (word_at product F bytes k) s.at
+        ∙ sym (word_there (length l₀) i (omega (arith, h)))) in
+        let place : i ≡ 0 + i = omega arith in
         record {
-          within = omega arith;
+          within = omega (arith, h);
           at = omega (arith, s.at, z);
           so_far =
-              ap (λ l. set l (place + i) w) s.so_far ∙ (ap (set (paste t₀ place ws i) (place + i)) same
-              ∙ (paste-suc t₀ place ws i 0 (omega arith) (omega (arith, words_from_length product F bytes k count from))
-              ∙ ap (paste t₀ place ws) (sym (add-one i))));
+              ap (λ m. set m i w) s.so_far ∙ (ap (set (paste l₀ 0 (all l₀) i) i) same
+              ∙ (ap (λ n. set (paste l₀ 0 (all l₀) i) n (get_or (all l₀) i 0)) place
+              ∙ (paste-suc l₀ 0 (all l₀) i 0 (omega (arith, h)) (omega (arith, h, long))
+              ∙ ap (paste l₀ 0 (all l₀)) (sym (add-one i)))));
         }
 
-    pub stored_end : count ≤ i → t ≡ paste t₀ place (words_from product F bytes k count from) count
-    stored_end h = let all : i ≡ count = omega (arith, s.within) in
-        s.so_far ∙ ap (paste t₀ place (words_from product F bytes k count from)) all
+    pub stored_end : length l₀ ≤ i → l ≡ all l₀
+    stored_end h =
+        let done : i ≡ length l₀ = omega (arith, s.within) in
+        s.so_far ∙ (ap (paste l₀ 0 (all l₀)) done ∙ (paste_all l₀ 0 (all l₀) (length l₀) (sym long)
+        ∙ (ap (λ m. all l₀ ++ m) (drop_of_length-le l₀ {i = 0 + length l₀} (omega arith)) ∙ append-nil (all l₀))))

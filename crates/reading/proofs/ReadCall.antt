@@ -21,6 +21,7 @@ use Rattle.reading.specs.Fitting.{Fitting}
 use Rattle.reading.specs.ReadPromise.{image_words, image_refusal, read_answer, read_words, ReadPromise}
 use Rattle.contents.proofs.InBytes.{AllBytes}
 use Rattle.contents.proofs.Product.{right_malformed}
+use Rattle.contents.proofs.ImageForms.{image_legible}
 use Rattle.reading.proofs.Held.{held_checked}
 
 -- Another refusal in the first place.
@@ -113,7 +114,7 @@ module _ (t bytes : List ℕ) (b : AllBytes bytes) (f : Fitting t bytes) (zeros 
   module _ (r : ℕ) (q : r ≡ table_refusal product work 0) where
     judged : or_else (malformed product (image_form bytes) bytes) 2 (last bytes) ≡ r
     judged =
-        ap (λ m. or_else m 2 (last bytes)) (right_malformed f.contents.form bytes b f.contents.right)
+        ap (λ m. or_else m 2 (last bytes)) (right_malformed (image_legible bytes) bytes b f.contents)
         ∙ sym (q ∙ (ap (λ w. table_refusal product w 0) work_held ∙ held_checked t bytes f.size f.fits))
 
     -- 2 is 12, and any other answer is reading's.

@@ -12,7 +12,6 @@ use Rattle.table.proofs.TestAnswers.{decides_true, decides_false}
 use Rattle.contents.specs.ImageForm.{Form, image_form}
 use Rattle.contents.specs.Reading.{words_of, malformed}
 use Rattle.contents.specs.Contents.{Contents}
-use Rattle.contents.specs.WithinBytes.{HasContents}
 use Rattle.contents.proofs.InBytes.{AllBytes}
 use Rattle.contents.proofs.Product.{wrong_malformed}
 use Rattle.contents.proofs.ImageForms.{legible_given}
@@ -22,8 +21,8 @@ use Rattle.reading.proofs.ReadCall.{overfull_some, read_overfull}
 
 -- What the test of the contents found, right or wrong.
 module _ (bytes : List ℕ) {F : Form} (own : F ≡ image_form bytes) (r : Bool) (found : Decides r (Contents F bytes)) where
-  pub right_read : not r ≡ false → HasContents F bytes
-  right_read e = record { form = legible_given bytes F own; right = decides_true r found (not-false r e) }
+  pub right_read : not r ≡ false → Contents F bytes
+  right_read e = decides_true r found (not-false r e)
 
   pub wrong_read : AllBytes bytes → not r ≡ true → malformed product (image_form bytes) bytes ≡ true
   wrong_read b e = subst (λ G. malformed product G bytes ≡ true) own (not-false (malformed product F bytes)
@@ -40,9 +39,9 @@ module _ (t bytes : List ℕ) {F : Form} (own : F ≡ image_form bytes) (size : 
   )
 
   -- No more.
-  pub fitting_read : HasContents F bytes → length (words_of product F bytes) ≤ length t → Fitting t bytes
+  pub fitting_read : Contents F bytes → length (words_of product F bytes) ≤ length t → Fitting t bytes
   fitting_read right h = record {
-    contents = subst (λ G. HasContents G bytes) own right;
+    contents = subst (λ G. Contents G bytes) own right;
     fits = subst (λ G. length (words_of product G bytes) ≤ length t) own h;
     size = size;
   }

@@ -6,33 +6,31 @@
 // with right contents, without the check. The crate assumes nothing.
 #![tactic(auto)]
 
+ghost use Rattle.table.specs.Refused.{answer_of};
 ghost use Rattle.reading.specs.ReadPromise.{ReadPromise};
 
 mod reader;
 
-use contents::{form_of, has_contents};
+use contents::{Form, has_contents};
 pub use reader::store_words;
 use reader::{count_words, overfull_refusal, read_through};
-use table::{BAD_SIZE, MALFORMED, MOST, Word, is_bad_size};
+use table::{MOST, Refusal, Word, is_bad_size};
 
 // Reads an image into a table: its words, then zeros. Refused with 1, 12, 11 or 3, the words are as they
 // were. The words that the table held are not looked at.
-pub fn read(table: &mut [Word], image: &[u8]) -> u8
-    ensures promise { ReadPromise table.old image.now result table.new }
+pub fn read(table: &mut [Word], image: &[u8]) -> Result<(), Refusal>
+    ensures promise { ReadPromise table.old image.now (answer_of result) table.new }
 {
-    let bad = is_bad_size(table);
-    if bad {
-        return BAD_SIZE;
+    if is_bad_size(table) {
+        return Err(Refusal::BadSize);
     }
-    let form = form_of(image);
-    let right = has_contents(form, image);
-    if !right {
-        return MALFORMED;
+    let form = Form::of(image);
+    if !has_contents(form, image) {
+        return Err(Refusal::Malformed);
     }
-    let count = count_words(form, image);
     let room = table.len();
-    if room < count {
-        return overfull_refusal(form, image);
+    if room < count_words(form, image) {
+        return Err(overfull_refusal(form, image));
     }
     let mut work: [Word; MOST] = [0; MOST];
     read_through(table, &mut work[..room], image)

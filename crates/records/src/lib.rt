@@ -5,28 +5,17 @@
 // decides nothing: it hands each ticket to a covered function. The crate assumes nothing.
 #![tactic(auto)]
 
-ghost use Rattle.std.specs.Prelude.{◌≡◌, ◌≤◌, ◌<◌, map, length, take, get_or};
+ghost use Rattle.std.specs.Prelude.{◌≤◌, ◌<◌, map, length};
 ghost use Rattle.rdfs.specs.Numbers.{product};
 ghost use Rattle.rdfs.specs.Register.{step, run, Table};
 ghost use Rattle.ticket_form.specs.TicketForm.{bytes_of};
 ghost use Rattle.list_form.specs.Listing.{listing, ListAnswered, record_bytes};
 ghost use Rattle.list_form.specs.Loops.{OneRun, AllRun};
-ghost use Rattle.records.specs.RecordTurns.{blank, turns_of, Turning};
 
-use list_form::{Listed, list_refusal, put_answer, sum_up};
-use table::Word;
+use list_form::{Listed, check_list, put_answer, sum_up};
+use table::{Refusal, Word, answer_of};
 use ticket::apply_ticket;
 use ticket_form::Ticket;
-
-// How many tickets of a list are run: none if it is refused.
-fn count_turns(answer: u8, tickets: usize) -> usize
-    ensures answer { result ≡ turns_of answer tickets }
-{
-    if answer == 0 {
-        return tickets;
-    }
-    0
-}
 
 // Runs one ticket of a list, by its place in it, on a table known to be consistent. The answer is how many
 // are accepted with it, `accepted` of those before it.
@@ -42,41 +31,35 @@ fn run_ticket(
     ensures answer { OneRun place accepted result table.new answers.old
         answers.new (step product table.old (bytes_of ticket)) }
 {
-    let applied = apply_ticket(table, ticket);
-    put_answer(answers, place, accepted, applied.answer)
+    let outcome = apply_ticket(table, ticket);
+    put_answer(answers, place, accepted, answer_of(outcome))
 }
 
-// The ticket at a place of a slice.
-fn ticket_at(tickets: &[Ticket], place: usize) -> Ticket
-    requires place { place < length tickets.now }
-    ensures answer { result ≡ get_or tickets.now place blank }
-{
-    tickets[place]
-}
-
-// Runs so many tickets in turn, the first of the slice. The answer is how many are accepted.
-fn run_records(table: &mut [Word], tickets: &[Ticket], answers: &mut [u8], turns: usize) -> usize
-    requires turns { Turning turns table.old tickets.now answers.old }
+// Runs the tickets in turn. The answer is how many are accepted.
+// The loop differs from those of `list` in the call: the contract of a closure would say it all again.
+fn run_records(table: &mut [Word], tickets: &[Ticket], answers: &mut [u8]) -> usize
+    requires table { Table product table.old }
+    requires room { length tickets.now ≤ length answers.old }
     ensures answer { AllRun result table.new answers.old answers.new
-        (run product table.old (map bytes_of (take turns tickets.now))) }
-    ensures bound { result ≤ turns }
+        (run product table.old (map bytes_of tickets.now)) }
 {
-    let mut place = 0;
     let mut accepted = 0;
-    while place < turns {
-        accepted = run_ticket(table, answers, place, accepted, ticket_at(tickets, place));
-        place += 1;
+    for (place, &ticket) in tickets.iter().enumerate() {
+        accepted = run_ticket(table, answers, place, accepted, ticket);
     }
     accepted
 }
 
 // Runs a list of tickets in turn on one table, as `apply_list` does with their bytes.
-pub fn apply_records(table: &mut [Word], tickets: &[Ticket], answers: &mut [u8]) -> Listed
+pub fn apply_records(
+    table: &mut [Word],
+    tickets: &[Ticket],
+    answers: &mut [u8],
+) -> Result<Listed, Refusal>
     ensures answer { ListAnswered result table.new answers.new
         (listing table.old (record_bytes tickets.now) answers.old) }
 {
-    let answer = list_refusal(table, tickets.len(), answers.len());
-    let turns = count_turns(answer, tickets.len());
-    let accepted = run_records(table, tickets, answers, turns);
-    sum_up(answer, turns, accepted)
+    check_list(table, tickets.len(), answers.len())?;
+    let accepted = run_records(table, tickets, answers);
+    Ok(sum_up(tickets.len(), accepted))
 }

@@ -7,6 +7,7 @@ use native.Mathlib.Omega.{arith}
 use lib.Dec.{eqb, leb, ltb}
 use lib.ListN.{length, take}
 use lib.Seq.{length-take-le, take_all}
+use Rattle.std.specs.Prelude.{Some}
 use Rattle.rdfs.specs.Numbers.{product, record_length}
 use Rattle.rdfs.specs.Words.{facts, fresh}
 use Rattle.rdfs.specs.Demands.{needs}
@@ -40,10 +41,10 @@ lines_fit bytes out n h room =
 -- A turn with the first n bytes of a chunk, by what stands in the two buffers; with all of them, if n is their number.
 module _ {w : List ℕ} (bytes : List ℕ) {v out : List ℕ} (n : ℕ) {k : ℕ} (p : Printed w (cut record_length (take n bytes)) k v out)
   where
-    pub shows_last : n < length bytes → Shows (Last n) w bytes v out
+    pub shows_last : n < length bytes → Shows (Some (Last n)) w bytes v out
     shows_last h = (k, h, record { lines = p.lines; words = p.words })
 
-    pub shows_more : n ≡ length bytes → Shows More w bytes v out
+    pub shows_more : n ≡ length bytes → Shows (Some More) w bytes v out
     shows_more e =
         let all : take n bytes ≡ bytes = take_all n bytes (omega (arith, e)) in
         subst (λ l. (j : ℕ) × Runs w v (record { read = l; text = take j out })) all

@@ -6,6 +6,7 @@ use mathlib.Core.List.{List, [], ◌∷◌, ◌++◌}
 use native.Mathlib.Omega.{arith}
 use lib.ListN.{length, take}
 use lib.Seq.{length-take-le}
+use Rattle.std.specs.Prelude.{Option, Some}
 use Rattle.rdfs.specs.Numbers.{product, record_length}
 use Rattle.rdfs.specs.Register.{cut, Table}
 use Rattle.rdfs.proofs.Register.AfterEach.{run_table}
@@ -42,10 +43,10 @@ module _ {start bytes₀ out₀ w bytes out : List ℕ} (q : Going start bytes�
       subst (Table product) (sym p.words) (run_table product product_sound (cut record_length t.read) w q.lent.table)
 
   -- A full turn more; r is what it answers, v, chunk and text what it leaves.
-  pub going_more : (r : Turned) (v chunk text : List ℕ) → r ≡ More → Shows r w chunk v text → length v ≡ length w
+  pub going_more : (r : Option Turned) (v chunk text : List ℕ) → r ≡ Some More → Shows r w chunk v text → length v ≡ length w
       → length chunk ≡ length bytes → length text ≡ length out → Going start bytes₀ out₀ v chunk text
   going_more r v chunk text e shows a b o =
-      let s : Shows More w chunk v text = subst (λ x. Shows x w chunk v text) e shows in
+      let s : Shows (Some More) w chunk v text = subst (λ x. Shows x w chunk v text) e shows in
       let t : Turn = record { read = chunk; text = take s.0 text } in
       record {
         turns = q.turns ++ (t ∷ []);
@@ -57,10 +58,10 @@ module _ {start bytes₀ out₀ w bytes out : List ℕ} (q : Going start bytes�
       }
 
   -- The last turn.
-  pub going_last : (r : Turned) (n : ℕ) (v chunk text : List ℕ) → r ≡ Last n → Shows r w chunk v text
+  pub going_last : (r : Option Turned) (n : ℕ) (v chunk text : List ℕ) → r ≡ Some (Last n) → Shows r w chunk v text
       → length chunk ≡ length bytes → Ran true (length bytes₀) start v
   going_last r n v chunk text e shows b =
-      let s : Shows (Last n) w chunk v text = subst (λ x. Shows x w chunk v text) e shows in
+      let s : Shows (Some (Last n)) w chunk v text = subst (λ x. Shows x w chunk v text) e shows in
       let t : Turn = record { read = take n chunk; text = take s.0 text } in
       let short : length t.read < length bytes₀ =
       omega (arith, s.1, b, q.chunk, length-take-le n chunk (omega (arith, s.1))) in

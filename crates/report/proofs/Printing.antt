@@ -1,19 +1,19 @@
 -- A loop that runs tickets and gathers their lines, after some of them. Assumes nothing.
-use Prim.Native.Nat.{ℕ, ◌+◌, ◌-◌, ◌*◌, ◌≤◌, ◌<◌, min}
+use Prim.Native.Nat.{ℕ, ◌+◌, ◌*◌, ◌≤◌, ◌<◌, min}
 use mathlib.Core.Path.{◌≡◌, refl, sym, ap, subst, ◌∙◌}
 use mathlib.Core.List.{List, [], ◌∷◌, ◌++◌, append-nil, append_assoc}
 use native.Mathlib.Omega.{arith}
-use lib.ListN.{length, take, drop, length-append}
+use lib.ListN.{length, take, length-append}
 use Rattle.rdfs.specs.Numbers.{product, record_length}
 use Rattle.rdfs.specs.Register.{Answer, step, run, cut, Table}
-use Rattle.ticket.specs.Answered.{Answered}
-use Rattle.ticket.specs.declared.answer.Applied.{Applied}
+use Rattle.table.specs.Refused.{answer_of}
+use Rattle.ticket.specs.Answered.{Outcome, added_by, removed_by, Answered}
 use Rattle.list_form.proofs.Runs.{register_keeps, left_length, left_table, left_more}
-use Rattle.list_form.proofs.CutOff.{cut_from, cut_end}
+use Rattle.list_form.proofs.CutOff.{cut_chunk, cut_end}
 use Rattle.text.specs.Text.{Puts}
 use Rattle.report.specs.Lines.{Line, Lines, Printed}
 
-line_same : {x y z u v w : ℕ} (text : List ℕ) → x ≡ u → y ≡ v → z ≡ w → Line x y z text → Line u v w text
+pub line_same : {x y z u v w : ℕ} (text : List ℕ) → x ≡ u → y ≡ v → z ≡ w → Line x y z text → Line u v w text
 line_same {x} {y} {z} {u} {v} {w} text a b c l =
     subst (λ n. Line n v w text) a (subst (λ n. Line x n w text) b (subst (λ n. Line x y n text) c l))
 
@@ -63,9 +63,9 @@ module _ (start : List ℕ) (all : List (List ℕ)) where
     unfolding run
     printing_table = left_table (step product) start q.before q.words register_keeps
 
-  pub printing_more : {t : List ℕ} {left : List (List ℕ)} {at r : ℕ} {w v out new : List ℕ} {a : Applied}
+  pub printing_more : {t : List ℕ} {left : List (List ℕ)} {at r : ℕ} {w v out new : List ℕ} {a : Outcome}
       → Printing start all (t ∷ left) at w out → Answered a v (step product w t)
-      → (r ≤ at + 18) × Puts (Line a.answer a.added a.removed) at r out new → Printing start all left r v new
+      → (r ≤ at + 18) × Puts (Line (answer_of a) (added_by a) (removed_by a)) at r out new → Printing start all left r v new
   unfolding run
   printing_more {t} {left} {at} {r} {w} {v} {out} {new} {a} q h (short, p) =
       let s : Answer = step product (run product start q.before).table t in
@@ -87,27 +87,37 @@ module _ (start : List ℕ) (all : List (List ℕ)) where
       let e : all ≡ q.before = q.tickets ∙ append-nil q.before in
       rw e record { words = q.words; lines = q.lines; within = h }
 
--- From place i of the bytes on.
-abbrev pub PrintingFrom : (start bytes : List ℕ) (i at : ℕ) (w out : List ℕ) → Type 0
-PrintingFrom start bytes i at w out = Printing start (cut record_length bytes) (cut record_length (drop i bytes)) at w out
+-- Of the bytes of a list some are run, and these are left.
+pub record PrintingBytes (start bytes left : List ℕ) (at : ℕ) (w out : List ℕ) : Type 0 where
+  pub printing : Printing start (cut record_length bytes) (cut record_length left) at w out
 
-module _ (start bytes : List ℕ) {i at : ℕ} {w out : List ℕ} (q : PrintingFrom start bytes i at w out) where
-  pub printing_end : length bytes ≤ i → 18 * length (cut record_length bytes) ≤ length out
+pub bytes_start : (start bytes left out : List ℕ) → left ≡ bytes → PrintingBytes start bytes left 0 start out
+bytes_start start bytes left out whole = rw whole record { printing = printing_start start (cut record_length bytes) out }
+
+abbrev one : List ℕ → List ℕ → Answer
+one = step product
+
+module _ {start bytes left : List ℕ} {at : ℕ} {w out : List ℕ} (q : PrintingBytes start bytes left at w out) where
+  pub bytes_table : Table product start → Table product w
+  bytes_table = printing_table start (cut record_length bytes) q.printing
+
+  pub bytes_end : length left ≡ 0 → 18 * length (cut record_length bytes) ≤ length out
       → Printed start (cut record_length bytes) at w out
-  printing_end h room =
+  bytes_end h room =
       let last : Printing start (cut record_length bytes) [] at w out =
-      subst (λ l. Printing start (cut record_length bytes) l at w out) (cut_end record_length bytes h) q in
+      subst (λ l. Printing start (cut record_length bytes) l at w out) (cut_end record_length left h) q.printing in
       printing_done start (cut record_length bytes) last (omega (arith, printing_room start (cut record_length bytes) last room))
 
-  -- The next ticket ends at e.
-  module _ {e : ℕ} (h : i < length bytes) (end : e ≡ min (i + record_length) (length bytes)) where
-    next : Printing start (cut record_length bytes) (take (e - i) (drop i bytes) ∷ cut record_length (drop e bytes)) at w out
+  -- The next ticket, and what is left after it, as the iterator over the tickets gives them.
+  module _ {size : ℕ} (ticket rest : List ℕ) (five : size ≡ record_length) (step : (left ≡ ticket ++ rest)
+      × (length ticket ≡ min size (length left)) × (0 < length left)) where
+    next : Printing start (cut record_length bytes) (ticket ∷ cut record_length rest) at w out
     next = subst (λ l. Printing start (cut record_length bytes) l at w out)
-        (cut_from record_length (omega arith) bytes i e h end) q
+        (cut_chunk record_length (omega arith) left ticket rest step.0 (omega (arith, five, step.1)) step.2) q.printing
 
-    pub printing_line : 18 * length (cut record_length bytes) ≤ length out → at + 18 ≤ length out
-    printing_line room = omega (arith, printing_room start (cut record_length bytes) next room)
+    pub bytes_line : 18 * length (cut record_length bytes) ≤ length out → at + 18 ≤ length out
+    bytes_line room = omega (arith, printing_room start (cut record_length bytes) next room)
 
-    pub printing_on : {r : ℕ} {v new : List ℕ} {a : Applied} → Answered a v (step product w (take (e - i) (drop i bytes)))
-        → (r ≤ at + 18) × Puts (Line a.answer a.added a.removed) at r out new → PrintingFrom start bytes e r v new
-    printing_on = printing_more start (cut record_length bytes) next
+    pub bytes_more : {r : ℕ} {v new : List ℕ} {a : Outcome} → Answered a v (one w ticket)
+        → (r ≤ at + 18) × Puts (Line (answer_of a) (added_by a) (removed_by a)) at r out new → PrintingBytes start bytes rest r v new
+    bytes_more ran put = record { printing = printing_more start (cut record_length bytes) next ran put }

@@ -7,6 +7,7 @@ use mathlib.Core.List.{List, [], ◌∷◌, ◌++◌, append_assoc}
 use native.Mathlib.Omega.{arith}
 use lib.ListN.{length, take, drop, length-drop, take-append-drop}
 use lib.Seq.{length-take-le}
+use Rattle.std.specs.Prelude.{Some}
 use Rattle.rdfs.specs.Numbers.{product, record_length}
 use Rattle.rdfs.specs.Lists.{concat_map}
 use Rattle.rdfs.specs.Words.{filled}
@@ -92,8 +93,8 @@ module _ (size : ℕ) (whole : size % record_length ≡ 0) {w v : List ℕ} (fro
       (run_table product product_sound (tickets (read_by turns.0 turns.1)) start fresh_table)
 
   -- They and the count's line write what program one prints.
-  pub ran_prints : (k : ℕ) (out : List ℕ) → Number (length (filled v)) 10 (take k out) → Finishes k size v out
-  ran_prints k out n some = record {
+  pub ran_prints : (k : ℕ) (out : List ℕ) → Number (length (filled v)) 10 (take k out) → Finishes (Some k) size v out
+  ran_prints k out n = record {
     full = turns.0;
     last = turns.1;
     turns = turns.2;

@@ -1,5 +1,5 @@
 -- What program one prints for its whole input, and the turns in which it reads the input and writes the text.
-use Rattle.std.specs.Prelude.{ℕ, ◌+◌, ◌*◌, ◌/◌, ◌%◌, ◌≤◌, ◌<◌, ◌≡◌, Bool, true, false, List, [], ◌∷◌, ◌++◌, length, take}
+use Rattle.std.specs.Prelude.{ℕ, ◌+◌, ◌*◌, ◌/◌, ◌%◌, ◌≤◌, ◌<◌, ◌≡◌, Bool, true, false, Option, None, Some, List, [], ◌∷◌, ◌++◌, length, take}
 use Rattle.rdfs.specs.Numbers.{product, record_length}
 use Rattle.rdfs.specs.Lists.{concat_map}
 use Rattle.rdfs.specs.Words.{filled, fresh}
@@ -7,7 +7,7 @@ use Rattle.rdfs.specs.Register.{run, cut, Table}
 use Rattle.text.specs.Text.{Number}
 use Rattle.report.specs.Lines.{Lines}
 use Rattle.report.specs.declared.turns.Turned.{Turned}
-use Rattle.report.specs.declared.turns.Turned.TheVariants.{More, Last, Failed}
+use Rattle.report.specs.declared.turns.Turned.TheVariants.{More, Last}
 
 -- The words at the start: a fresh table of the most words.
 abbrev pub start : List ℕ
@@ -65,14 +65,15 @@ pub record Lent (words bytes out : List ℕ) : Type 0 where
   pub table : Table product words
   pub sized : Sized (length bytes) (length out)
 
--- What a turn shows of itself in the chunk and in the text's buffer, by its answer. A turn that failed is the
--- end.
-abbrev pub Shows : Turned → (table bytes left out : List ℕ) → Type 0
-Shows More table bytes left out = (end : ℕ) × Runs table left (record { read = bytes; text = take end out })
-Shows (Last count) table bytes left out =
+-- What a turn shows of itself in the chunk and in the text's buffer, by its answer. A turn whose read or write
+-- failed is the end.
+abbrev pub Shows : Option Turned → (table bytes left out : List ℕ) → Type 0
+Shows (Some More) table bytes left out =
+    (end : ℕ) × Runs table left (record { read = bytes; text = take end out })
+Shows (Some (Last count)) table bytes left out =
     (end : ℕ) × (count < length bytes)
     × Runs table left (record { read = take count bytes; text = take end out })
-Shows Failed table bytes left out = Unit {0}
+Shows None table bytes left out = Unit {0}
 
 -- If the turns went on to the end of the input, they are all its turns.
 abbrev pub Ran : Bool → ℕ → List ℕ → List ℕ → Type 0
@@ -87,6 +88,7 @@ pub record Complete (size : ℕ) (left count : List ℕ) : Type 0 where
   pub turns : AllTurns size start left full last
   pub output : Output (read_by full last) (written_by full last ++ count)
 
--- By the length r of the count's line, which stands at the start of `out`: 0 if the run is not whole.
-abbrev pub Finishes : ℕ → ℕ → List ℕ → List ℕ → Type 0
-Finishes r size left out = 0 < r → Complete size left (take r out)
+-- By the length r of the count's line, which stands at the start of `out`: None if the run is not whole.
+abbrev pub Finishes : Option ℕ → ℕ → List ℕ → List ℕ → Type 0
+Finishes (Some r) size left out = Complete size left (take r out)
+Finishes None size left out = Unit {0}

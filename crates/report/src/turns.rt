@@ -4,7 +4,7 @@ ghost use Rattle.report.specs.Turns.{Lent, Shows, Ran};
 
 use crate::lines::put_lines;
 use std::io::Input;
-use streams::{Filled, read_input, write_output};
+use streams::{read_input, write_output};
 use table::Word;
 
 // What a turn came to.
@@ -14,18 +14,16 @@ pub enum Turned {
     More,
     // The input ended after this many bytes of the chunk, and their lines are written.
     Last(usize),
-    // A read or a write failed.
-    Failed,
 }
 
-// Runs the tickets of the first n bytes of a chunk and writes their lines.
+// Runs the tickets of the first n bytes of a chunk and writes their lines. None if the write fails.
 fn run_tickets(
     rt: &impl Print,
     table: &mut [Word],
     bytes: &[u8],
     count: usize,
     out: &mut [u8],
-) -> Turned
+) -> Option<Turned>
     requires lent { Lent table.old bytes.now out.old }
     requires bytes { count ≤ length bytes.now }
     ensures turn { Shows result table.old bytes.now table.new
@@ -33,13 +31,13 @@ fn run_tickets(
 {
     let length = put_lines(table, &bytes[..count], out);
     let written = write_output(rt, b"apply_tickets", &out[..length]);
-    if written {
-        if count == bytes.len() {
-            return Turned::More;
-        }
-        return Turned::Last(count);
+    if !written {
+        return None;
     }
-    Turned::Failed
+    if count == bytes.len() {
+        return Some(Turned::More);
+    }
+    Some(Turned::Last(count))
 }
 
 // Reads a chunk, runs its tickets and writes their lines. If the read fails, none of its tickets is run.
@@ -48,20 +46,17 @@ fn run_chunk(
     table: &mut [Word],
     bytes: &mut [u8],
     out: &mut [u8],
-) -> Turned
+) -> Option<Turned>
     requires lent { Lent table.old bytes.old out.old }
     ensures turn { Shows result table.old bytes.new table.new
         out.new }
 {
-    let filled = read_input(rt, b"apply_tickets", bytes);
-    let Filled::Read(count) = filled else {
-        return Turned::Failed;
-    };
+    let count = read_input(rt, b"apply_tickets", bytes)?;
     run_tickets(rt, table, bytes, count, out)
 }
 
 // Runs the whole input, turn by turn. Whether it came to the end of the input. A loop has to end, and nothing
-// says that the input does: it counts down from a number that no run uses up.
+// says that the input does: it counts to a number that no run comes to.
 pub fn run_input(
     rt: &(impl Input + Print),
     table: &mut [Word],
@@ -71,19 +66,11 @@ pub fn run_input(
     requires lent { Lent table.old bytes.old out.old }
     ensures turns { Ran result (length bytes.old) table.old table.new }
 {
-    let mut turns = u64::MAX;
-    while turns > 0 {
-        let turned = run_chunk(rt, table, bytes, out);
-        match turned {
-            Turned::More => {
-                turns -= 1;
-            }
-            Turned::Last(_) => {
-                return true;
-            }
-            Turned::Failed => {
-                return false;
-            }
+    for _ in 0..u64::MAX {
+        match run_chunk(rt, table, bytes, out) {
+            Some(Turned::More) => {}
+            Some(Turned::Last(_)) => return true,
+            None => return false,
         }
     }
     false

@@ -1,2 +1,3 @@
--- Meeting: for meets.
+-- Meeting: for meets. Passing: for all_meet.
 mod Meeting
+mod Passing

@@ -1,3 +1,3 @@
 pub mod RuleOf
 pub mod Earlier
-pub mod TestAsks
+pub mod Tested

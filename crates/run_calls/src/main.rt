@@ -60,8 +60,7 @@ const WORDS: usize = MOST + 1;
 fn main() {
     let mut text = io::large_buffer();
     let length = io::read_full(STDIN, &mut text);
-    let zero: Word = 0;
-    let mut words = [zero; WORDS];
-    let mut kept = [zero; WORDS];
+    let mut words: [Word; WORDS] = [0; WORDS];
+    let mut kept: [Word; WORDS] = [0; WORDS];
     run_lines(&text[..length], &mut words, &mut kept);
 }

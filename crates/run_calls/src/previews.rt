@@ -3,7 +3,7 @@ ghost use Rattle.std.specs.Prelude.{◌≤◌, length};
 
 use crate::calls::print_applied;
 use preview::{ask, commit};
-use script::{bytes_in, number_in, print_text, print_words, put_words, words_in};
+use script::{print_text, print_words, put_words, split_number};
 use table::Word;
 
 // The words that a run can have.
@@ -22,17 +22,15 @@ fn print_asked(table: &[Word], ticket: &[u8], added: &mut [Word], removed: &mut 
 }
 
 // Asks with an added run of so many words; how many the removed run has comes before the ticket.
-pub fn print_ask(table: &[Word], number: usize, given: &[u8]) {
+pub fn print_ask(table: &[Word], coming: usize, given: &[u8]) {
+    let (going, ticket) = split_number(given);
     let mut added = [UNWRITTEN; RUN];
     let mut removed = [UNWRITTEN; RUN];
-    let coming = words_in(&added, number);
-    let going = words_in(&removed, number_in(given));
-    let behind = bytes_in(given, 2);
     print_asked(
         table,
-        &given[behind..],
-        &mut added[..coming],
-        &mut removed[..going],
+        ticket,
+        &mut added[..coming.min(RUN)],
+        &mut removed[..going.min(RUN)],
     );
 }
 
@@ -42,25 +40,23 @@ fn print_committed(table: &mut [Word], given: &[u8], added: &mut [Word], removed
     requires added { length added.old ≤ 2048 }
     requires removed { length removed.old ≤ 2048 }
 {
-    let second = bytes_in(given, 4 * added.len());
-    let behind = bytes_in(given, 4 * (added.len() + removed.len()));
+    let second = given.get(4 * added.len()..).unwrap_or(&[]);
+    let ticket = second.get(4 * removed.len()..).unwrap_or(&[]);
     put_words(added, given);
-    put_words(removed, &given[second..]);
-    let applied = commit(table, &given[behind..], added, removed);
+    put_words(removed, second);
+    let applied = commit(table, ticket, added, removed);
     print_applied(applied);
 }
 
 // Commits with an added run of so many words; how many the removed run has comes before the words.
-pub fn print_commit(table: &mut [Word], number: usize, given: &[u8]) {
+pub fn print_commit(table: &mut [Word], coming: usize, given: &[u8]) {
+    let (going, behind) = split_number(given);
     let mut added = [0; RUN];
     let mut removed = [0; RUN];
-    let coming = words_in(&added, number);
-    let going = words_in(&removed, number_in(given));
-    let behind = bytes_in(given, 2);
     print_committed(
         table,
-        &given[behind..],
-        &mut added[..coming],
-        &mut removed[..going],
+        behind,
+        &mut added[..coming.min(RUN)],
+        &mut removed[..going.min(RUN)],
     );
 }

@@ -6,7 +6,7 @@ use crate::calls::print_listed;
 use list_form::Listed;
 use records::apply_records;
 use script::print_text;
-use table::Word;
+use table::{Refusal, Word};
 use ticket_form::{RECORD, Ticket};
 
 // How many tickets are lent.
@@ -27,7 +27,11 @@ fn ticket_at(bytes: &[u8], place: usize) -> Ticket
 
 // Runs a list of five tickets by `apply_records`. The array is lent here, so that callers make no reference
 // to structs.
-fn apply_five(table: &mut [Word], tickets: [Ticket; TICKETS], answers: &mut [u8]) -> Listed
+fn apply_five(
+    table: &mut [Word],
+    tickets: [Ticket; TICKETS],
+    answers: &mut [u8],
+) -> Result<Listed, Refusal>
     ensures answers { ListAnswered result table.new answers.new
         (listing table.old (record_bytes tickets) answers.old) }
 {

@@ -20,47 +20,29 @@ pub fn print_answer(answer: u8) {
 
 // 1 where the test holds, else 0.
 pub fn print_test(test: bool) {
-    if test {
-        print_number(1);
-        return;
+    print_number(test as usize);
+}
+
+// Numbers in hexadecimal, each of at least so many digits, after a blank.
+fn print_each<T: Copy + Into<u64>>(numbers: &[T], digits: usize) {
+    for &number in numbers {
+        print_text(b" ");
+        io::print_hex(STDOUT, number.into(), digits);
     }
-    print_number(0);
-}
-
-// A number in hexadecimal, of at least so many digits, after a blank.
-fn print_digits(number: u64, digits: usize) {
-    print_text(b" ");
-    io::print_hex(STDOUT, number, digits);
-}
-
-fn print_byte(byte: u8) {
-    print_digits(byte as u64, 2);
-}
-
-fn print_word(word: Word) {
-    print_digits(word as u64, 8);
 }
 
 pub fn print_bytes(bytes: &[u8]) {
-    let mut place = 0;
-    while place < bytes.len() {
-        print_byte(bytes[place]);
-        place += 1;
-    }
+    print_each(bytes, 2);
 }
 
 // How many words there are up to the last that is not 0.
 fn count_used(table: &[Word]) -> usize
     ensures bound { result ≤ length table.now }
 {
-    let mut count = table.len();
-    while 0 < count {
-        if table[count - 1] != 0 {
-            return count;
-        }
-        count -= 1;
+    match table.iter().rposition(|&word| word != 0) {
+        Some(last) => last + 1,
+        None => 0,
     }
-    count
 }
 
 pub fn print_count(table: &[Word]) {
@@ -69,10 +51,5 @@ pub fn print_count(table: &[Word]) {
 
 // The words up to the last that is not 0.
 pub fn print_words(table: &[Word]) {
-    let count = count_used(table);
-    let mut place = 0;
-    while place < count {
-        print_word(table[place]);
-        place += 1;
-    }
+    print_each(&table[..count_used(table)], 8);
 }

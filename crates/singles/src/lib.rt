@@ -11,26 +11,22 @@ ghost use Rattle.rdfs.specs.Operators.{register_as};
 ghost use Rattle.list_form.specs.Listing.{listing, ListAnswered};
 ghost use Rattle.list_form.specs.Loops.{AllRun};
 
-use list_form::{Listed, count_tickets, find_end, list_refusal, put_answer, sum_up};
-use table::Word;
+use list_form::{Listed, check_list, count_tickets, put_answer, sum_up, tickets_of};
+use table::{Refusal, Word, answer_of};
 use ticket::apply;
 
 // Runs the tickets in turn, each by a single call on the table that the one before left. The answer is how
 // many are accepted.
+// The loop differs from those of `list` in the call: the contract of a closure would say it all again.
 fn run_each(table: &mut [Word], bytes: &[u8], answers: &mut [u8]) -> usize
     requires room { length (cut record_length bytes.now) ≤ length answers.old }
     ensures answer { AllRun result table.new answers.old answers.new
         (register_as false product table.old bytes.now) }
 {
-    let mut from = 0;
-    let mut place = 0;
     let mut accepted = 0;
-    while from < bytes.len() {
-        let to = find_end(from, bytes.len());
-        let applied = apply(table, &bytes[from..to]);
-        accepted = put_answer(answers, place, accepted, applied.answer);
-        place += 1;
-        from = to;
+    for (place, ticket) in tickets_of(bytes).enumerate() {
+        let outcome = apply(table, ticket);
+        accepted = put_answer(answers, place, accepted, answer_of(outcome));
     }
     accepted
 }
@@ -38,15 +34,12 @@ fn run_each(table: &mut [Word], bytes: &[u8], answers: &mut [u8]) -> usize
 // Runs a list of tickets in turn: each is run by `ticket::apply`, which checks the table again. Each ticket's
 // number goes to its answer byte; bytes beyond the list are as they were. Refused with 1, 2, 3 or 14, the
 // table and the answer bytes are as found.
-pub fn apply_each(table: &mut [Word], bytes: &[u8], answers: &mut [u8]) -> Listed
+pub fn apply_each(table: &mut [Word], bytes: &[u8], answers: &mut [u8]) -> Result<Listed, Refusal>
     ensures answer { ListAnswered result table.new answers.new
         (listing table.old bytes.now answers.old) }
 {
     let tickets = count_tickets(bytes.len());
-    let refusal = list_refusal(table, tickets, answers.len());
-    if refusal != 0 {
-        return sum_up(refusal, 0, 0);
-    }
+    check_list(table, tickets, answers.len())?;
     let accepted = run_each(table, bytes, answers);
-    sum_up(refusal, tickets, accepted)
+    Ok(sum_up(tickets, accepted))
 }

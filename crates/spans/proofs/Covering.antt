@@ -1,27 +1,23 @@
 -- Spans of words, and one pass over a span and over the words that it is looked for in. Assumes nothing.
 use Prim.Native.Nat.{ℕ, ◌+◌, ◌≤◌, ◌<◌}
-use mathlib.Core.Path.{◌≡◌, sym, ap, subst, ◌∙◌}
+use mathlib.Core.Path.{◌≡◌, refl, sym, ap, subst, ◌∙◌}
 use mathlib.Core.Logic.{⊎_elim}
-use mathlib.Core.List.{List}
+use mathlib.Core.List.{List, [], ◌∷◌}
+use mathlib.Core.Bool.{Bool}
 use native.Mathlib.Nat.{eq-or-lt_of_le}
 use native.Mathlib.Omega.{arith}
-use lib.ListN.{length}
+use lib.ListN.{length, get_or, drop, length-drop}
+use lib.Seq.{get_or-drop}
+use Rattle.table.specs.Answers.{Decides}
 use Rattle.table.specs.Parts.{first_of, second_of}
 use Rattle.table.specs.Counted.{Id}
-use Rattle.spans.specs.Spans.{span_of, entry_of, IsSpan, at, Has, FactWords, Before, NotPast, Below, Indexed, SpanStart}
+use Rattle.spans.specs.Spans.{span_of, entry_of, IsSpan, at, Has, FactWords, Before, NotPast, Below, Indexed, SpanStart, FromSpan}
 use Rattle.spans.specs.Passes.{Covered}
-use Rattle.spans.proofs.SpanPlaces.{split, span_below, span_seconds, first_id, spans_ascend}
+use Rattle.spans.proofs.Decided.{decides_as}
+use Rattle.spans.proofs.SpanPlaces.{split, before_up, after_down, below_decides, span_below, span_seconds, first_id, spans_ascend}
 
 -- A span found by the index.
 module _ {t s : List ℕ} (X : Indexed t s) (j : ℕ) (J : IsSpan j) where
-  pub start_here : (i : ℕ) → i ≡ at s (entry_of j) → i < length t → span_of (at t i) ≡ j → SpanStart t j i
-  start_here i q l e = record {
-    within = omega arith;
-    here = λ h. e;
-    before = λ h k b. X.starts.before j k J (omega arith);
-    none = λ h. absurd (omega arith);
-  }
-
   pub start_none : (i : ℕ) → i ≡ at s (entry_of j) → (i < length t → span_of (at t i) ≡ j → ⊥) → SpanStart t j (length t)
   start_none i q n = record {
     within = omega arith;
@@ -33,6 +29,22 @@ module _ {t s : List ℕ} (X : Indexed t s) (j : ℕ) (J : IsSpan j) where
     where
       apart : (at s (entry_of j) < length t) × (span_of (at t (at s (entry_of j))) ≡ j) → ⊥
       apart h = n (omega arith) (rw q h.1)
+
+-- The words from the start on, by their places in the table.
+module _ {t words : List ℕ} {j : ℕ} (W : FromSpan t j words) (i : ℕ) where
+  pub from_at : get_or words i 0 ≡ at t (W.place + i)
+  from_at = ap (λ (l : List ℕ). get_or l i 0) W.rest ∙ get_or-drop W.place t i 0
+
+  pub from_within : i < length words → W.place + i < length t
+  from_within h = omega (arith, ap (λ (l : List ℕ). length l) W.rest, length-drop W.place t, W.start.within)
+
+  pub from_end : length words ≤ i → length t ≤ W.place + i
+  from_end h = omega (arith, ap (λ (l : List ℕ). length l) W.rest, length-drop W.place t, W.start.within)
+
+-- Nothing is left from the end on.
+pub none_left : (l : List ℕ) → [] ≡ drop (length l) l
+none_left [] = refl
+none_left (x ∷ l) = none_left l
 
 -- Words of a span, by where it starts.
 module _ {t : List ℕ} (F : FactWords t) (j r : ℕ) (S : SpanStart t j r) where
@@ -53,12 +65,28 @@ module _ {t : List ℕ} (F : FactWords t) (j r : ℕ) (S : SpanStart t j r) wher
       same_within : (a b c d : ℕ) → a ≤ b → b ≤ c → a ≡ d → c ≡ d → b ≡ d
       same_within a b c d p q u v = omega arith
 
--- No word from w on stands before the start of w's span, and a span without words has not w.
-pub span_before : {t : List ℕ} (w r : ℕ) → Id (first_of w) → SpanStart t (span_of w) r → r < length t → Before t r w
-span_before {t} w r i S h k b = span_below (at t k) w i (S.before h k b)
+-- The word w looked for from the start of its span on: no word from w on stands before the place that is looked at, if the span
+-- has any word.
+module _ {t words : List ℕ} (F : FactWords t) (w : ℕ) (W : FromSpan t (span_of w) words) (i : ℕ) where
+  pub among_none : Id (first_of w) → i ≡ 0 → 0 < length words → Before t (W.place + i) w
+  among_none h e n k b = span_below (at t k) w h (W.start.before (omega (arith, from_within W 0 n)) k (omega arith))
 
-pub span_lacks : {t : List ℕ} (w r : ℕ) → SpanStart t (span_of w) r → length t ≤ r → Has t w → ⊥
-span_lacks w r S h (i, l, e) = S.none h i l (ap (λ (z : ℕ). span_of z) e)
+  pub among_more : i < length words → get_or words i 0 < w → Before t (W.place + (i + 1)) w
+  among_more n h = subst (λ m. Before t m w) (omega arith)
+      (before_up F w (W.place + i) (from_within W i n) (rw (from_at W i) at h))
+
+  pub among_here : i < length words → w ≤ get_or words i 0 → Before t (W.place + i) w → (b : Bool)
+      → Decides b (get_or words i 0 ≡ w) → Decides b (Has t w)
+  among_here n h B b d =
+      below_decides F w (W.place + i) (record {
+        within = omega (arith, from_within W i n);
+        before = B;
+        after = after_down F w (W.place + i) (rw (from_at W i) at h);
+      }) b (decides_as b _ _ (λ e. (from_within W i n, sym (from_at W i) ∙ e)) (λ q. from_at W i ∙ q.1) d)
+
+  pub among_end : length words ≤ i → (0 < length words → Before t (W.place + i) w) → Has t w → ⊥
+  among_end n B (m, l, e) = ⊎_elim (λ p. omega (arith, B p m (omega (arith, from_end W i n)), e))
+      (λ p. W.start.none (omega (arith, from_end W 0 p)) m l (ap (λ (z : ℕ). span_of z) e)) (split 0 (length words))
 
 -- The words of span j before place i have their second ids, upon the base, among the words; none from the next one on stands
 -- before `place`.

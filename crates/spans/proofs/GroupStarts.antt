@@ -5,7 +5,6 @@ use mathlib.Core.Logic.{⊎_elim}
 use mathlib.Core.List.{List}
 use native.Mathlib.Nat.{eq-or-lt_of_le}
 use native.Mathlib.Omega.{arith}
-use lib.ListN.{length}
 use Rattle.rdfs.specs.Numbers.{product}
 use Rattle.spans.specs.Spans.{at, Before}
 use Rattle.spans.specs.Passes.{group_of, GroupStart, GroupSoFar}

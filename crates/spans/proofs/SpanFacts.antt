@@ -1,21 +1,21 @@
 -- The facts of one kind and one first id, by the words of their span. Assumes nothing.
 use Prim.Native.Nat.{ℕ, ◌+◌, ◌≤◌, ◌<◌}
-use mathlib.Core.Path.{◌≡◌, refl, sym, subst, ◌∙◌}
+use mathlib.Core.Path.{◌≡◌, refl, sym, ap, subst, ◌∙◌}
 use mathlib.Core.Logic.{◌⊎◌, inl, inr, ⊎_elim}
 use mathlib.Core.Bool.{Bool, true, false}
 use mathlib.Core.List.{List}
 use native.Mathlib.Omega.{arith}
-use lib.ListN.{length}
+use lib.ListN.{length, get_or}
 use Rattle.rdfs.specs.Numbers.{arity}
 use Rattle.table.specs.Answers.{Decides}
 use Rattle.table.specs.Parts.{kind_of, first_of, second_of, third_of, word_of}
 use Rattle.table.specs.Counted.{Id}
-use Rattle.spans.specs.Spans.{span_at, span_of, entry_of, IsSpan, id_count, at, Has, FactWords, Indexed, SpanStart}
+use Rattle.spans.specs.Spans.{span_at, span_of, entry_of, IsSpan, at, Has, FactWords, Indexed, SpanStart, FromSpan}
 use Rattle.spans.specs.Passes.{Covered, group_of}
 use Rattle.spans.specs.Sought.{Kind, TwoIds}
 use Rattle.spans.specs.Graphs.{Stands, Inherited, Single, Only}
 use Rattle.spans.proofs.SpanPlaces.{split, compare, first_id, words_ascend}
-use Rattle.spans.proofs.Covering.{span_from, span_past}
+use Rattle.spans.proofs.Covering.{from_at, from_within, from_end, span_from, span_past}
 
 -- A word of two ids, by its span and its second id.
 pub kind_by_lem : (w k a : ℕ) → Id a → Id (first_of w) → span_of w ≡ span_at k a → kind_of w ≡ k
@@ -68,18 +68,9 @@ module _ {t : List ℕ} (F : FactWords t) (k a : ℕ) (K : TwoIds k) (A : Id a) 
     stands_none h z q = omega (arith, (stands_from z q).0)
 
     pub only_here : Single t k → r < length t → Only t k a (second_of (at t r))
-    only_here U l = let stands = span_stands r l (S.here l) in record {
-      within = omega arith;
-      some = λ h. stands;
-      all = λ w q. U a w (second_of (at t r)) q stands;
-    }
-
-    pub only_none : length t ≤ r → Only t k a id_count
-    only_none h = record {
-      within = omega arith;
-      some = λ l. absurd (omega arith);
-      all = λ w q. absurd (stands_none h w q);
-    }
+    only_here U l =
+        let stands = span_stands r l (S.here l) in
+        record { some = stands; all = λ w q. U a w (second_of (at t r)) q stands }
 
     -- The span has no second word.
     pub only_one : (r + 1 < length t → span_of (at t (r + 1)) ≡ span_at k a → ⊥) → (z : ℕ) → Stands t k a z 0
@@ -91,6 +82,41 @@ module _ {t : List ℕ} (F : FactWords t) (k a : ℕ) (K : TwoIds k) (A : Id a) 
         by_case m h e f (inl p) = absurd (omega (arith, (span_from F _ r S m h e).1))
         by_case m h e f (inr (inl p)) = rw p f
         by_case m h e f (inr (inr p)) = absurd (span_past F _ r S (r + 1) (omega arith) (n (omega arith)) m (omega arith) h e)
+
+-- The facts by the words from the first of the span on.
+module _ {t words : List ℕ} (F : FactWords t) (k a : ℕ) (K : TwoIds k) (A : Id a) (W : FromSpan t (span_at k a) words) where
+  first_at : get_or words 0 0 ≡ at t W.place
+  first_at = from_at W 0 ∙ ap (at t) (omega arith)
+
+  first_within : 0 < length words → W.place < length t
+  first_within h = omega (arith, from_within W 0 h)
+
+  pub first_none : length words ≤ 0 → (z : ℕ) → Stands t k a z 0 → ⊥
+  first_none h = stands_none F k a K A W.place W.start (omega (arith, from_end W 0 h))
+
+  pub first_stands : 0 < length words → Stands t k a (second_of (get_or words 0 0)) 0
+  first_stands h = rw first_at (span_stands F k a K A W.place (first_within h) (W.start.here (first_within h)))
+
+  pub first_only : Single t k → 0 < length words → Only t k a (second_of (get_or words 0 0))
+  first_only U h = rw first_at (only_here F k a K A W.place W.start U (first_within h))
+
+  -- No second word is of the span.
+  pub first_alone : (1 < length words → span_of (get_or words 1 0) ≡ span_at k a → ⊥) → (z : ℕ) → Stands t k a z 0
+      → second_of (get_or words 0 0) ≡ z
+  first_alone n z q = rw first_at (only_one F k a K A W.place W.start (λ l e. n (inside l) (rw (from_at W 1) e)) z q)
+    where
+      inside : W.place + 1 < length t → 1 < length words
+      inside l = ⊎_elim (λ h. h) (λ h. absurd (omega (arith, from_end W 1 h))) (split 1 (length words))
+
+  -- A second word is of another fact.
+  pub next_apart : (h : 1 < length words) → span_of (get_or words 1 0) ≡ span_at k a
+      → ((z : ℕ) → Stands t k a z 0 → second_of (get_or words 0 0) ≡ z) → ⊥
+  next_apart h e f = span_differ F k a K A W.place (W.place + 1) (omega arith) next (W.start.here (first_within (omega arith)))
+      (rw (from_at W 1) at e)
+      (ap second_of (sym first_at) ∙ f _ (span_stands F k a K A (W.place + 1) next (rw (from_at W 1) at e)))
+    where
+      next : W.place + 1 < length t
+      next = from_within W 1 h
 
 -- The least word of a span would be its first: what stands at the span's place in the index decides whether it is there.
 least_word : (w k a : ℕ) → Id a → Id (first_of w) → span_of w ≡ span_at k a → word_of k a 0 0 ≤ w
@@ -148,9 +174,6 @@ module _ (t : List ℕ) (a b c : ℕ) (A : Id a) (B : Id b) (C : Id c) where
 module _ {t : List ℕ} {k a r : ℕ} (O : Only t k a r) where
   pub only_is : (P : ℕ → Type 0) → P r → (z : ℕ) → Stands t k a z 0 → P z
   only_is P p z q = subst P (sym (O.all z q)) p
-
-  pub only_out : id_count ≤ r → (z : ℕ) → Stands t k a z 0 → ⊥
-  only_out h z q = omega (arith, O.all z q, q.0.1)
 
 pub only_both : {t : List ℕ} {k a b z w : ℕ} → Only t k a z → Only t k b w → (P : ℕ → ℕ → Type 0) → P z w → (x y : ℕ)
     → Stands t k a x 0 → Stands t k b y 0 → P x y

@@ -7,7 +7,11 @@ use mathlib.Core.List.{List}
 use native.Mathlib.Nat.{eq-or-lt_of_le}
 use native.Mathlib.Decide.{dec_lt}
 use native.Mathlib.Omega.{arith}
+use lib.Dec.{ltb}
 use lib.ListN.{length}
+use borrow.Author.Tests.{lt-ltb, ltb-true, ltb-false}
+use Rattle.std.proofs.lemmas.List.{get_or_default}
+use Rattle.std.specs.List.Sorted.{IsPartitionedBy, IsPartitionPoint}
 use Rattle.table.specs.Answers.{Decides}
 use Rattle.table.specs.Parts.{kind_of, first_of, second_of}
 use Rattle.table.specs.Counted.{Id}
@@ -71,36 +75,20 @@ module _ {t : List ℕ} (F : FactWords t) where
       at_place i l e (inr (inl a)) = (omega arith, rw a e)
       at_place i l e (inr (inr a)) = absurd (omega (arith, F.ascending r i a l, L.after r (omega arith) (omega arith)))
 
--- The place of w is from `low` up to `high`.
-pub record Enclosed (t : List ℕ) (w low high : ℕ) : Type 0 where
-  pub order : low ≤ high
-  pub within : high ≤ length t
-  pub before : Before t low w
-  pub after : (k : ℕ) → high ≤ k → k < length t → w ≤ at t k
+-- What stands below w comes first, and the point where it ends is the place of w.
+module _ {t : List ℕ} (F : FactWords t) (w : ℕ) where
+  pub partitioned : IsPartitionedBy (λ y. ltb y w) t
+  partitioned i j d h l e = lt-ltb _ _ (omega (
+    arith,
+    get_or_default t i d 0 (omega arith),
+    get_or_default t j d 0 l,
+    words_ascend F i j h l,
+    ltb-true _ _ e,
+  ))
 
-pub enclosed_start : (t : List ℕ) (w : ℕ) → Enclosed t w 0 (length t)
-enclosed_start t w = record {
-  order = omega arith;
-  within = omega arith;
-  before = λ k l. absurd (omega arith);
-  after = λ k l m. absurd (omega arith);
-}
-
-module _ {t : List ℕ} (F : FactWords t) {w low high : ℕ} (E : Enclosed t w low high) (m : ℕ) where
-  pub enclosed_up : m < high → at t m < w → Enclosed t w (m + 1) high
-  enclosed_up l h = record {
-    order = omega arith;
-    within = E.within;
-    before = before_up F w m (omega (arith, E.within)) h;
-    after = E.after;
+  pub below_point : (r : ℕ) → r ≤ length t → IsPartitionPoint (λ y. ltb y w ≡ true) (λ y. ltb y w ≡ false) t r → Below t w r
+  below_point r b (P, Q) = record {
+    within = b;
+    before = λ i h. ltb-true (at t i) w (P i 0 (omega arith) h);
+    after = λ i h l. ltb-false (at t i) w (Q i 0 h l);
   }
-
-  pub enclosed_down : low ≤ m → m < high → w ≤ at t m → Enclosed t w low m
-  enclosed_down l n h = record { order = l; within = omega (arith, E.within); before = E.before; after = after_down F w m h }
-
-pub enclosed_done : {t : List ℕ} {w low high : ℕ} → Enclosed t w low high → high ≤ low → Below t w low
-enclosed_done E h = record {
-  within = omega (arith, E.order, E.within);
-  before = E.before;
-  after = λ k l m. E.after k (omega arith) m;
-}

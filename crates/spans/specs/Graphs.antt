@@ -1,9 +1,9 @@
 -- The graph of the words of a table, and the facts of one kind and one first id.
-use Rattle.std.specs.Prelude.{ℕ, ◌≤◌, ◌<◌, ◌≡◌, cond, List, eqb, length}
+use Rattle.std.specs.Prelude.{ℕ, ◌<◌, ◌≡◌, cond, List, eqb, length, Option, Some, None}
 use Rattle.rdfs.specs.Facts.{Graph, kind, first, second, third}
 use Rattle.table.specs.Parts.{kind_of, first_of, second_of, third_of, word_of}
 use Rattle.table.specs.Counted.{Id}
-use Rattle.spans.specs.Spans.{at, Has, id_count}
+use Rattle.spans.specs.Spans.{at, Has}
 
 -- The fact of kind k with the ids a, b, c is among the words.
 abbrev pub Stands : List ℕ → ℕ → ℕ → ℕ → ℕ → Type 0
@@ -38,8 +38,12 @@ Inherited table a b c = (z : ℕ) → Stands table 6 c z 0 → Stands table 10 a
 abbrev pub Single : List ℕ → ℕ → Type 0
 Single table k = (x y z : ℕ) → Stands table k x y 0 → Stands table k x z 0 → y ≡ z
 
--- b is the second id of a's only fact of kind k; above the highest id if a has none.
+-- b is the second id of a's only fact of kind k.
 pub record Only (table : List ℕ) (k a b : ℕ) : Type 0 where
-  pub within : b ≤ id_count
-  pub some : b < id_count → Stands table k a b 0
+  pub some : Stands table k a b 0
   pub all : (z : ℕ) → Stands table k a z 0 → z ≡ b
+
+-- That id, or that there is none.
+abbrev pub OnlySecond : List ℕ → ℕ → ℕ → Option ℕ → Type 0
+OnlySecond table k a (Some b) = Only table k a b
+OnlySecond table k a None = (z : ℕ) → Stands table k a z 0 → ⊥

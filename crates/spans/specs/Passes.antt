@@ -11,7 +11,6 @@ use Rattle.spans.specs.Spans.{
   FactWords,
   Before,
   NotPast,
-  Indexed,
 }
 
 -- The second id of each word of a span, upon a base, is among the words.
@@ -20,8 +19,7 @@ Covered table span base = (i : ℕ) → i < length table → span_of (at table i
     → Has table (base + second_of (at table i))
 
 -- What such a pass is given: a span, a base that leaves room for an id, a place that is not past the base's.
-pub record Coverable (table index : List ℕ) (span from base : ℕ) : Type 0 where
-  pub indexed : Indexed table index
+pub record Coverable (table : List ℕ) (span from base : ℕ) : Type 0 where
   pub counted : IsSpan span
   pub place : NotPast table from base
   pub room : base ≤ word_of kind_count product.top product.top 0
@@ -45,8 +43,13 @@ pub record GroupSoFar (table : List ℕ) (place group : ℕ) : Type 0 where
   pub first : group ≡ place → Before table place (group_of (at table place))
 
 -- The word of a value, and a place that is not past the first with its subject and object.
-pub record ValueWord (table index : List ℕ) (group word : ℕ) : Type 0 where
-  pub indexed : Indexed table index
+pub record ValueWord (table : List ℕ) (group word : ℕ) : Type 0 where
   pub fact : FactWord word
   pub value : kind_of word ≡ 10
   pub place : NotPast table group (group_of word)
+
+-- The words of kind k, as they stand together: ascending, and all that the table has.
+pub record OfKind (table : List ℕ) (k : ℕ) (words : List ℕ) : Type 0 where
+  pub facts : FactWords words
+  pub here : (i : ℕ) → i < length words → (kind_of (at words i) ≡ k) × Has table (at words i)
+  pub all : (i : ℕ) → i < length table → kind_of (at table i) ≡ k → Has words (at table i)

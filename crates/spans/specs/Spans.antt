@@ -1,6 +1,6 @@
 -- The words of a table before its zeros, and where each span of them starts. A span is the words of one kind
 -- and one first id.
-use Rattle.std.specs.Prelude.{ℕ, suc, ◌+◌, ◌-◌, ◌*◌, ◌≤◌, ◌<◌, ◌≡◌, List, length, get_or}
+use Rattle.std.specs.Prelude.{ℕ, suc, ◌+◌, ◌-◌, ◌*◌, ◌≤◌, ◌<◌, ◌≡◌, List, length, get_or, drop}
 use Rattle.rdfs.specs.Numbers.{product, kind_count}
 use Rattle.table.specs.Parts.{kind_of, first_of, second_of, third_of, Shaped, Allowed}
 
@@ -85,3 +85,9 @@ pub record SpanStart (table : List ℕ) (span place : ℕ) : Type 0 where
   pub here : place < length table → span_of (at table place) ≡ span
   pub before : place < length table → (i : ℕ) → i < place → span_of (at table i) < span
   pub none : length table ≤ place → (i : ℕ) → i < length table → span_of (at table i) ≡ span → ⊥
+
+-- The words from the first of a span on; none, if the span has none.
+pub record FromSpan (table : List ℕ) (span : ℕ) (words : List ℕ) : Type 0 where
+  pub place : ℕ
+  pub start : SpanStart table span place
+  pub rest : words ≡ drop place table

@@ -2,7 +2,7 @@
 -- id.
 use Rattle.std.specs.Prelude.{ℕ, ◌≤◌, ◌<◌, ◌≡◌, List, length}
 use Rattle.table.specs.Parts.{second_of}
-use Rattle.spans.specs.Spans.{id_count, IsSpan, span_of, at, Indexed}
+use Rattle.spans.specs.Spans.{id_count, IsSpan, span_of, at}
 use Rattle.spans.specs.Sought.{Kind, TwoIds}
 
 -- The span has a word with z as its second id.
@@ -26,9 +26,8 @@ pub record Stamped (table stamps : List ℕ) (span : ℕ) : Type 0 where
 abbrev pub AllLower : List ℕ → ℕ → Type 0
 AllLower stamps span = (z : ℕ) → at stamps z < span
 
--- The words with their index, a span, and a stamp for each id.
-pub record Stampable (table index stamps : List ℕ) (span : ℕ) : Type 0 where
-  pub indexed : Indexed table index
+-- A span, and a stamp for each id.
+pub record Stampable (stamps : List ℕ) (span : ℕ) : Type 0 where
   pub counted : IsSpan span
   pub ids : length stamps ≡ id_count
 
@@ -38,11 +37,8 @@ pub record StampedUpTo (table stamps : List ℕ) (last span : ℕ) : Type 0 wher
   pub most : (z : ℕ) → at stamps z ≤ last
   pub same : last ≡ span → Stamped table stamps span
 
--- The words with their index, stamps that are 0, a kind to go through, and two kinds with two ids.
-pub record Carriable (table index stamps : List ℕ) (k m l : ℕ) : Type 0 where
-  pub indexed : Indexed table index
+-- A kind to go through, and two kinds with two ids.
+pub record Carriable (k m l : ℕ) : Type 0 where
   pub kind : Kind k
   pub upper : TwoIds m
   pub lower : TwoIds l
-  pub ids : length stamps ≡ id_count
-  pub zeros : (z : ℕ) → at stamps z ≡ 0

@@ -2,9 +2,10 @@
 ghost use Rattle.std.specs.Prelude.{◌≡◌, ◌<◌, length};
 ghost use Rattle.table.specs.Counted.{Id};
 ghost use Rattle.spans.specs.Spans.{span_at, span_of, entry_of, IsSpan, at};
-ghost use Rattle.spans.specs.Spans.{Index, Fillable, Indexed, SpanStart};
+ghost use Rattle.spans.specs.Spans.{Index, Fillable, FromSpan};
 ghost use Rattle.spans.specs.Sought.{Kind};
 
+use crate::Spans;
 use table::{KINDS, TOP, Word, first_of, kind_of};
 
 pub const IDS: Word = TOP + 1;
@@ -36,18 +37,12 @@ pub fn entry_of(span: usize) -> usize
     span - FIRST
 }
 
-fn wide(number: u16) -> usize
-    ensures answer { result ≡ number }
-{
-    number as usize
-}
-
 // The number at a place of an index or of stamps.
 pub fn number_at(numbers: &[u16], place: usize) -> usize
     requires place { place < length numbers.now }
     ensures answer { result ≡ at numbers.now place }
 {
-    wide(numbers[place])
+    usize::from(numbers[place])
 }
 
 // Fills the index, which is all 0 at first, from the last word to the first.
@@ -55,25 +50,21 @@ pub fn fill_index<'a>(table: &'a [Word], index: &mut [u16])
     requires words { Fillable table.now index.old }
     ensures index { Index table.now index.new }
 {
-    let mut at = table.len();
-    while 0 < at {
-        at -= 1;
-        let entry = entry_of(span_of(table[at]));
-        index[entry] = at as u16;
+    for at in (0..table.len()).rev() {
+        index[entry_of(span_of(table[at]))] = at as u16;
     }
 }
 
-// The place of a span's first word, or the number of words if the span has none.
-pub fn find_span<'a>(table: &'a [Word], index: &'a [u16], span: usize) -> usize
-    requires words { Indexed table.now index.now }
-    requires span { IsSpan span }
-    ensures answer { SpanStart table.now span result }
-{
-    let place = number_at(index, entry_of(span));
-    if place < table.len() {
-        if span_of(table[place]) == span {
-            return place;
+impl<'a> Spans<'a> {
+    // The words from a span's first on; none if the span has none.
+    pub fn from_span(&self, span: usize) -> &'a [Word]
+        requires span { IsSpan span }
+        ensures words { FromSpan self.now.table.now span result.now }
+    {
+        let place = number_at(self.index, entry_of(span));
+        if place < self.table.len() && span_of(self.table[place]) == span {
+            return &self.table[place..];
         }
+        &[]
     }
-    table.len()
 }

@@ -6,9 +6,9 @@
 #![tactic(auto)]
 
 ghost use Rattle.streams.specs.Input.{Within, Ends};
-ghost use Rattle.std.specs.Prelude.{◌≡◌, length};
+ghost use Rattle.std.specs.Prelude.{◌≡◌, ◌≤◌, IfOk, length};
 
-use std::io::{Input, Read};
+use std::io::{Input, Read, Result};
 
 // The descriptors of standard input, standard output and standard error, for what is read and printed by the
 // kit's `io`.
@@ -29,71 +29,64 @@ pub fn text_buffer() -> [u8; TEXT + 1]
     [0; TEXT + 1]
 }
 
-// What reading into a buffer came to.
-#[derive(Clone, Copy)]
-pub enum Filled {
-    // This many bytes stand at its start: all of it, or fewer, and then the input ended after them.
-    Read(usize),
-    // A read failed. How far it came is not told.
-    Failed,
-}
-
-// Reads until the buffer is full, the input ends or a read fails. A read that a signal interrupts, or that
-// finds nothing yet on a descriptor that does not wait, has failed: it is not the end of the input.
-fn fill<R: Read>(reader: &mut R, buffer: &mut [u8]) -> Filled
-    ensures bound { Within result (length buffer.new) }
+// Reads until the buffer is full or the input ends, and answers how many bytes stand at its start: all of it,
+// or fewer, and then the input ended after them. If a read fails, how far it came is not told. A read that a
+// signal interrupts, or that finds nothing yet on a descriptor that does not wait, has failed: it is not the
+// end of the input.
+// The loop counts the bytes that reads moved, which no iterator gives: a `while`.
+fn fill<R: Read>(reader: &mut R, buffer: &mut [u8]) -> Result<usize>
+    ensures bound { IfOk result (λ count. count ≤ length buffer.new) }
 {
     let mut done = 0;
     while done < buffer.len() {
-        let Ok(more) = reader.read(&mut buffer[done..]) else {
-            return Filled::Failed;
-        };
+        let more = reader.read(&mut buffer[done..])?;
         if more == 0 {
-            return Filled::Read(done);
+            break;
         }
         done += more;
     }
-    Filled::Read(done)
+    Ok(done)
 }
 
-// Reads standard input into a buffer. If a read fails, a line on standard error says so, after the program's
-// name.
-pub fn read_input(rt: &impl Input, program: &[u8], buffer: &mut [u8]) -> Filled
+// A line on standard error: the program's name, and what failed.
+fn complain(program: &[u8], what: &[u8]) {
+    io::write_all(STDERR, program);
+    io::write_all(STDERR, what);
+}
+
+// Reads standard input into a buffer, and answers how many bytes it read, as many as there is room for at
+// most. If a read fails, a line on standard error says so, after the program's name.
+pub fn read_input(rt: &impl Input, program: &[u8], buffer: &mut [u8]) -> Option<usize>
     ensures bound { Within result (length buffer.new) }
 {
     let mut reader = rt.reader();
-    let filled = fill(&mut reader, buffer);
-    if let Filled::Failed = filled {
-        io::write_all(STDERR, program);
-        io::write_all(STDERR, b": standard input could not be read\n");
-    }
-    filled
+    let Ok(count) = fill(&mut reader, buffer) else {
+        complain(program, b": standard input could not be read\n");
+        return None;
+    };
+    Some(count)
 }
 
 // Reads all of standard input into a buffer that is longer than it. If it is not, or a read fails, a line on
 // standard error says so, after the program's name.
-pub fn read_whole(rt: &impl Input, program: &[u8], buffer: &mut [u8]) -> Filled
+pub fn read_whole(rt: &impl Input, program: &[u8], buffer: &mut [u8]) -> Option<usize>
     ensures whole { Ends result (length buffer.new) }
 {
-    let filled = read_input(rt, program, buffer);
-    let Filled::Read(count) = filled else {
-        return filled;
-    };
+    let count = read_input(rt, program, buffer)?;
     if count == buffer.len() {
-        io::write_all(STDERR, program);
-        io::write_all(STDERR, b": the input is too long\n");
-        return Filled::Failed;
+        complain(program, b": the input is too long\n");
+        return None;
     }
-    filled
+    Some(count)
 }
 
 // Writes all of a text to standard output. If a write fails the answer is false, part of the text may have
 // been written, and a line on standard error says so, after the program's name.
+// Whether it was written, and nothing beside it: a Result would tell no more.
 pub fn write_output(rt: &impl Print, program: &[u8], text: &[u8]) -> bool {
-    if rt.write_all(text).is_ok() {
-        return true;
+    let written = rt.write_all(text).is_ok();
+    if !written {
+        complain(program, b": standard output could not be written\n");
     }
-    io::write_all(STDERR, program);
-    io::write_all(STDERR, b": standard output could not be written\n");
-    false
+    written
 }

@@ -13,9 +13,10 @@ use Rattle.rdfs.specs.Lists.{◌∈◌, here, there, Ascending, member}
 use Rattle.rdfs.proofs.Lists.ListLaws.{in_cons, none_in}
 use Rattle.rdfs.proofs.Words.FactLaws.{tests_member}
 use Rattle.table.specs.Found.{below, found_as, found}
-use Rattle.table.specs.declared.search.Found.TheVariants.{At, Missing}
+use Rattle.std.specs.Prelude.{Ok, Err}
 use Rattle.table.proofs.TestAnswers.{is_true, is_false}
-use Rattle.table.proofs.Halving.{Turns, turns}
+use Rattle.table.specs.Turning.{Turns}
+use Rattle.table.proofs.Halving.{turns}
 use Rattle.table.proofs.Filled.{at_in}
 
 -- The first word is below w or not.
@@ -54,6 +55,8 @@ below_down w (x ∷ l) (suc k) a h e = step (ltb x w) (below_down w l k a.1 (ome
     step true r = omega arith
     step false r = omega arith
 
+pub ruleset below_laws = (below_within, below_up, below_down)
+
 -- The word at place i is w.
 abbrev pub Stands : List ℕ → ℕ → ℕ → Type 0
 Stands l w i = (i < length l) × (get_or l i 0 ≡ w)
@@ -71,13 +74,21 @@ below_place w (x ∷ l) a h = ⊎_elim first (λ m. later m (below_place w l a.1
     later : w ∈ l → Stands l w (below l w) → Stands (x ∷ l) w (below (x ∷ l) w)
     later m r = subst (Stands (x ∷ l) w) (sym (below_less x w l (a.0 w m))) (omega (arith, r.0), r.1)
 
--- So the search there says whether it is a member.
-module _ (w : ℕ) (l : List ℕ) (a : Ascending l) where
-  pub stands_member : (i : ℕ) → Stands l w i → member l w ≡ true
-  stands_member i h = is_true ((tests_member l w).complete (subst (λ x. x ∈ l) h.1 (at_in l i h.0)))
+-- What the search does with a test and with the place where it ends.
+module _ (l : List ℕ) (w : ℕ) (a : Ascending l) where
+  pub below_turns : (k r : ℕ) → k < length l → r ≡ cond (ltb (get_or l k 0) w) 1 0 → Turns (below l w) k r
+  below_turns k r h e = turns (below l w) k (get_or l k 0) w r (below_up w l k a h) (below_down w l k a h) e
 
-  pub missing_member : (Stands l w (below l w) → ⊥) → member l w ≡ false
-  missing_member n = is_false (λ t. n (below_place w l a ((tests_member l w).sound t)))
+  pub place_there : (i : ℕ) → i ≡ below l w → i < length l → get_or l i 0 ≡ w → Ok i ≡ found l w
+  place_there i b h e =
+      let there : member l w ≡ true = is_true ((tests_member l w).complete (subst (λ x. x ∈ l) e (at_in l i h))) in
+      sym (ap (λ m. found_as m (below l w)) there ∙ ap Ok (sym b))
+
+  pub place_missing : (i : ℕ) → i ≡ below l w → (i < length l → get_or l i 0 ≡ w → ⊥) → Err i ≡ found l w
+  place_missing i b n =
+      let not_at : Stands l w (below l w) → ⊥ = subst (λ j. Stands l w j → ⊥) b (λ s. n s.0 s.1) in
+      let gone : member l w ≡ false = is_false (λ t. not_at (below_place w l a ((tests_member l w).sound t))) in
+      sym (ap (λ m. found_as m (below l w)) gone ∙ ap Err (sym b))
 
 -- The same of the first n words of a table.
 module _ (t : List ℕ) (n w : ℕ) (h : n ≤ length t) (a : Ascending (take n t)) where
@@ -93,35 +104,18 @@ module _ (t : List ℕ) (n w : ℕ) (h : n ≤ length t) (a : Ascending (take n 
   pub first_down : (k : ℕ) → k < n → w ≤ get_or t k 0 → below (take n t) w ≤ k
   first_down k l e = below_down w (take n t) k a (omega (arith, firsts)) (omega (arith, get_or-take n t k 0 l))
 
-  -- A test of the search.
-  pub first_turns : (k r : ℕ) → k < n → r ≡ cond (ltb (get_or t k 0) w) 1 0 → Turns (below (take n t) w) k r
-  first_turns k r l e = turns (below (take n t) w) k (get_or t k 0) w r (first_up k l) (first_down k l) e
-
-  pub first_at : (i : ℕ) → i ≡ below (take n t) w → i < n → get_or t i 0 ≡ w → At i ≡ found (take n t) w
-  first_at i b l e =
-      let there : member (take n t) w ≡ true = stands_member w (take n t) a i (omega (arith, firsts), get_or-take n t i 0 l ∙ e) in
-      sym (ap (λ m. found_as m (below (take n t) w)) there ∙ ap At (sym b))
-
-  pub first_missing : (i : ℕ) → i ≡ below (take n t) w → (i < n → get_or t i 0 ≡ w → ⊥) → Missing i ≡ found (take n t) w
-  first_missing i b f =
-      let not_at : Stands (take n t) w i → ⊥ = λ s. let l : i < n = omega (arith, s.0, firsts) in
-      f l (sym (get_or-take n t i 0 l) ∙ s.1) in
-      let gone : member (take n t) w ≡ false =
-      missing_member w (take n t) a (λ s. not_at (subst (Stands (take n t) w) (sym b) s)) in
-      sym (ap (λ m. found_as m (below (take n t) w)) gone ∙ ap Missing (sym b))
-
 -- What the answers of a search say.
 module _ (l : List ℕ) (w i : ℕ) where
-  pub found_at : found l w ≡ At i → (member l w ≡ true) × (below l w ≡ i)
+  pub found_at : found l w ≡ Ok i → (member l w ≡ true) × (below l w ≡ i)
   found_at e = go (member l w) e
     where
-      go : (b : Bool) → found_as b (below l w) ≡ At i → (b ≡ true) × (below l w ≡ i)
+      go : (b : Bool) → found_as b (below l w) ≡ Ok i → (b ≡ true) × (below l w ≡ i)
       go true e = (refl, cc)
       go false e = absurd (let z : ◌≡◌ {A = ℕ} 0 1 = cc in omega arith)
 
-  pub found_missing : found l w ≡ Missing i → (member l w ≡ false) × (below l w ≡ i)
+  pub found_missing : found l w ≡ Err i → (member l w ≡ false) × (below l w ≡ i)
   found_missing e = go (member l w) e
     where
-      go : (b : Bool) → found_as b (below l w) ≡ Missing i → (b ≡ false) × (below l w ≡ i)
+      go : (b : Bool) → found_as b (below l w) ≡ Err i → (b ≡ false) × (below l w ≡ i)
       go true e = absurd (let z : ◌≡◌ {A = ℕ} 0 1 = cc in omega arith)
       go false e = (refl, cc)

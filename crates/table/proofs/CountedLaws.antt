@@ -5,12 +5,12 @@ use mathlib.Core.List.{List}
 use native.Mathlib.Omega.{arith}
 use lib.Dec.{T}
 use lib.ListN.{length, get_or, take}
-use lib.Seq.{get_or-take}
+use lib.Seq.{get_or-take, take_all}
 use Rattle.rdfs.specs.Numbers.{product}
 use Rattle.rdfs.specs.Lists.{◌∈◌, Ascending}
 use Rattle.rdfs.specs.Words.{is_fact, filled}
-use Rattle.rdfs.proofs.Words.LaidOut.{laid_is_fact}
-use Rattle.table.specs.Counted.{Counted}
+use Rattle.rdfs.proofs.Words.LaidOut.{laid_is_fact, laid_ascending}
+use Rattle.table.specs.Counted.{Counted, Full}
 use Rattle.table.proofs.Filled.{at_in, counted_filled, counted_ascending}
 
 module _ {t : List ℕ} {n : ℕ} (c : Counted t n) where
@@ -31,3 +31,11 @@ module _ {t : List ℕ} {n : ℕ} (c : Counted t n) where
 
     pub counted_fact : T (is_fact product (get_or t i 0))
     counted_fact = laid_is_fact product t c.laid (get_or t i 0) counted_in
+
+-- Facts with nothing after them.
+module _ {l : List ℕ} (q : Full l) where
+  pub full_filled : l ≡ filled l
+  full_filled = sym (take_all (length l) l (omega arith)) ∙ counted_first q
+
+  pub full_ascending : Ascending l
+  full_ascending = subst Ascending (sym full_filled) (laid_ascending product l q.laid)

@@ -14,7 +14,8 @@ use Rattle.rdfs.specs.Words.{laid_out, filled}
 use Rattle.rdfs.proofs.Lists.Tests.{differ}
 use Rattle.rdfs.proofs.Lists.ListLaws.{in_filter}
 use Rattle.rdfs.proofs.Words.LaidOut.{laid_shape, laid_ascending}
-use Rattle.table.proofs.Halving.{Turns, turns}
+use Rattle.table.specs.Turning.{Turns}
+use Rattle.table.proofs.Halving.{turns}
 
 pub at_in : (l : List ℕ) (i : ℕ) → i < length l → get_or l i 0 ∈ l
 at_in [] i h = absurd (omega arith)

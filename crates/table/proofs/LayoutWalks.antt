@@ -1,5 +1,6 @@
 -- A walk up a table while its words are facts, each above the one before, and a walk while they are zeros. Assumes nothing.
 use Prim.Native.Nat.{ℕ, zero, suc, ◌+◌, ◌≤◌, ◌<◌}
+use Rattle.std.specs.Prelude.{max}
 use mathlib.Core.Path.{◌≡◌, refl, sym, ap, ◌∙◌}
 use mathlib.Core.Logic.{◌⊎◌, inl, inr, ⊎_elim}
 use mathlib.Core.Bool.{Bool, true, false, ◌&&◌, cond, and-false}
@@ -85,27 +86,24 @@ module _ (t : List ℕ) (i : ℕ) where
   zeros_end : length t ≤ i → zeros (drop i t) ≡ true
   zeros_end h = ap zeros (drop_of_length-le t h)
 
--- The highest of the words from n up to i: while it is 0, the words from n on are zeros if those from i on are.
-pub record Highest (t : List ℕ) (n i highest : ℕ) : Type 0 where
-  pub none : highest ≡ 0 → zeros (drop n t) ≡ zeros (drop i t)
-  pub some : 0 < highest → zeros (drop n t) ≡ false
+-- The highest of the first i words: while it is 0, the words are zeros if those from i on are.
+pub record Highest (t : List ℕ) (i highest : ℕ) : Type 0 where
+  pub none : highest ≡ 0 → zeros t ≡ zeros (drop i t)
+  pub some : 0 < highest → zeros t ≡ false
 
-pub highest_start : (t : List ℕ) (n : ℕ) → Highest t n n 0
-highest_start t n = record { none = λ e. refl; some = λ h. absurd (omega arith) }
+pub highest_start : (t : List ℕ) → Highest t 0 0
+highest_start t = record { none = λ e. refl; some = λ h. absurd (omega arith) }
 
-module _ {t : List ℕ} {n i highest : ℕ} (k : Highest t n i highest) where
-  pub highest_more : i < length t → get_or t i 0 ≤ highest → Highest t n (i + 1) highest
-  highest_more h l = record { none = λ e. k.none e ∙ zeros_more t i h (omega arith); some = k.some }
-
-  pub highest_higher : i < length t → highest < get_or t i 0 → Highest t n (i + 1) (get_or t i 0)
-  highest_higher h l = record {
-    none = λ e. absurd (omega arith);
-    some = λ p. ⊎_elim (λ e. k.none e ∙ zeros_stop t i h (λ z. omega arith)) (λ q. k.some q) (zero_or_more highest);
+module _ {t : List ℕ} {i highest : ℕ} (k : Highest t i highest) where
+  pub highest_more : i < length t → Highest t (i + 1) (max highest (get_or t i 0))
+  highest_more h = record {
+    none = λ e. k.none (omega (arith, e)) ∙ zeros_more t i h (omega (arith, e));
+    some = λ p. ⊎_elim (λ e. k.none e ∙ zeros_stop t i h (λ z. omega (arith, p, e, z))) (λ q. k.some q) (zero_or_more highest);
   }
     where
       zero_or_more : (m : ℕ) → (m ≡ 0) ⊎ (0 < m)
       zero_or_more zero = inl refl
       zero_or_more (suc m) = inr (omega arith)
 
-  pub highest_zero : length t ≤ i → highest ≡ 0 → zeros (drop n t) ≡ true
+  pub highest_zero : length t ≤ i → highest ≡ 0 → zeros t ≡ true
   highest_zero h e = k.none e ∙ zeros_end t i h

@@ -14,14 +14,15 @@ pub mod LayoutWalks
 pub mod Halving
 pub mod Filled
 pub mod CountedLaws
+pub mod CutTable
 pub mod Below
 pub mod Moved
 pub mod FactLookup
-pub mod Copied
 pub mod PutPlace
 pub mod StoredWord
 pub mod Sizes
 pub mod TableRefusals
+pub mod RefusalNumbers
 pub mod Promising
 pub mod Overlaid
 pub mod Zeros

@@ -18,6 +18,14 @@ Id a = a ≤ product.top
 abbrev pub facts_of : List ℕ → List Fact
 facts_of table = facts product table
 
+-- Facts, ascending, and nothing after them: a table cut to its facts.
+abbrev pub Full : List ℕ → Type 0
+Full facts = Counted facts (length facts)
+
+-- A kind with ids that make a fact.
+abbrev pub Formed : ℕ → ℕ → ℕ → ℕ → Type 0
+Formed k a b c = Shaped k b c × Id a × Id b × Id c
+
 -- A table with the number of its facts, and a kind with ids that make a fact.
 pub record Lookup (table : List ℕ) (count k a b c : ℕ) : Type 0 where
   pub counted : Counted table count

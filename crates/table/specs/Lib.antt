@@ -2,7 +2,9 @@ pub mod Answers
 pub mod Parts
 pub mod Layout
 pub mod Found
+pub mod Turning
 pub mod Room
 pub mod Overlay
 pub mod Counted
 pub mod Storing
+pub mod Refused

@@ -10,14 +10,10 @@ mod room;
 mod search;
 mod words;
 
-pub use layout::{count_facts, is_bad_size, layout_refusal};
-pub use refusals::{
-    BAD_IDS, BAD_KIND, BAD_LAYOUT, BAD_LENGTH, BAD_OPERATION, BAD_SIZE, CLASHING, FEW_ANSWERS,
-    GUARDED, INCONSISTENT, MALFORMED, NOT_FOR_OPERATORS, OUT_OF_DATE, OUTSIDE_PROFILE,
-    SHORT_OUTPUT, TOO_MANY, UNKNOWN_CLASS, UNKNOWN_PROPERTY,
-};
-pub use room::{Stored, clear_from, copy_words, put_at, store};
-pub use search::{Found, count_below, count_up_to, find, has_fact, has_word};
+pub use layout::{check_layout, count_facts, is_bad_size};
+pub use refusals::{Refusal, answer_of};
+pub use room::{Stored, put_at, store};
+pub use search::{count_below, count_up_to, find, has_fact, has_word};
 pub use words::{
     BASE, CLASS, DOMAIN, EXCLUSIVE, INDIVIDUAL, KINDS, LITERAL, Limits, MARK, MEMBER, MOST,
     PROPERTY, RANGE, RESOURCE, SUBCLASS, SUBPROPERTY, TOP, VALUE, Word, arity_of, first_of,

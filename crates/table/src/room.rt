@@ -1,14 +1,15 @@
-// Room for a word among others, a word stored at its place, words taken away at the end, and a table copied.
+// Room for a word among others, and a word stored at its place.
 ghost use Rattle.std.specs.Prelude.{◌≡◌, ◌≤◌, ◌<◌, T, length};
 ghost use Rattle.rdfs.specs.Numbers.{product};
 ghost use Rattle.rdfs.specs.Words.{is_fact};
-ghost use Rattle.table.specs.Room.{put_at, cleared_from};
+ghost use Rattle.table.specs.Room.{put_at};
 ghost use Rattle.table.specs.Counted.{Counted};
 ghost use Rattle.table.specs.Storing.{StoreMeans};
 
-use crate::search::{Found, find};
+use crate::search::find;
 use crate::words::Word;
 
+// Three outcomes: a Result would be no plainer, as it would tell the first two apart by a bool.
 #[derive(Clone, Copy)]
 pub enum Stored {
     // The word stands in the table already.
@@ -19,17 +20,14 @@ pub enum Stored {
     NoRoom,
 }
 
-// Moves the words from `place` up to `count` one place up, and stores a word at `place`.
+// Moves the words from `place` up to `count` one place up, and stores a word at `place`. Here and in `store`
+// the number of facts stands beside the table, since a word is written behind them.
 pub fn put_at(table: &mut [Word], count: usize, place: usize, word: Word)
     requires place { place ≤ count }
     requires room { count < length table.old }
     ensures words { table.new ≡ put_at table.old count place word }
 {
-    let mut at = count;
-    while place < at {
-        table[at] = table[at - 1];
-        at -= 1;
-    }
+    table.copy_within(place..count, place + 1);
     table[place] = word;
 }
 
@@ -39,10 +37,9 @@ pub fn store(table: &mut [Word], count: usize, word: Word) -> Stored
     requires fact { T (is_fact product word) }
     ensures words { StoreMeans table.old word table.new result }
 {
-    let found = find(table, count, word);
-    match found {
-        Found::At(_) => Stored::There,
-        Found::Missing(place) => {
+    match find(&table[..count], word) {
+        Ok(_) => Stored::There,
+        Err(place) => {
             if count < table.len() {
                 put_at(table, count, place, word);
                 Stored::Added
@@ -50,29 +47,5 @@ pub fn store(table: &mut [Word], count: usize, word: Word) -> Stored
                 Stored::NoRoom
             }
         }
-    }
-}
-
-// Stores 0 at every place from `from` on.
-pub fn clear_from(table: &mut [Word], from: usize)
-    requires from { from ≤ length table.old }
-    ensures words { table.new ≡ cleared_from table.old from }
-{
-    let mut place = from;
-    while place < table.len() {
-        table[place] = 0;
-        place += 1;
-    }
-}
-
-// Copies every word.
-pub fn copy_words(from: &[Word], to: &mut [Word])
-    requires length { length from.now ≡ length to.old }
-    ensures words { to.new ≡ from.now }
-{
-    let mut place = 0;
-    while place < from.len() {
-        to[place] = from[place];
-        place += 1;
     }
 }

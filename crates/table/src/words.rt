@@ -32,7 +32,8 @@ pub const RESOURCE: Word = 0;
 // The mark Literal.
 pub const MARK: Word = 1;
 
-// The kinds: Cl, Pr, Ind, Lit, CSub, PSub, Dom, Rng, CI, PI, Excl.
+// The kinds: Cl, Pr, Ind, Lit, CSub, PSub, Dom, Rng, CI, PI, Excl. They are numbers, as an enum would be no
+// plainer: a kind is a digit of a word, which may be no kind, and the words of kind k end at those of k + 1.
 pub const CLASS: Word = 1;
 
 pub const PROPERTY: Word = 2;
@@ -96,7 +97,7 @@ pub fn kind_numbers() -> [Word; KINDS as usize]
     ]
 }
 
-// An id as a place.
+// An id as a place: a cast that loses nothing.
 pub fn place(a: Word) -> usize
     ensures answer { result ≡ a }
 {
@@ -130,7 +131,7 @@ pub fn kind_of(word: Word) -> Word
     word / BASE / BASE / BASE
 }
 
-// Its id a.
+// Its id a. The three ids have a function each: one with the place as a const parameter would be no plainer.
 pub fn first_of(word: Word) -> Word
     ensures answer { result ≡ first_of word }
 {
@@ -163,51 +164,19 @@ pub fn word_of(k: Word, a: Word, b: Word, c: Word) -> Word
 fn is_shaped(k: Word, b: Word, c: Word) -> bool
     ensures answer { Decides result (Shaped k b c) }
 {
-    let ids = arity_of(k);
-    if ids == 0 {
-        return false;
+    match arity_of(k) {
+        0 => false,
+        1 => b == 0 && c == 0,
+        2 => c == 0,
+        _ => true,
     }
-    if 2 < ids {
-        return true;
-    }
-    if c != 0 {
-        return false;
-    }
-    if 1 < ids {
-        return true;
-    }
-    if b != 0 {
-        return false;
-    }
-    true
 }
 
 // Whether the ids are at most the highest, with the mark only as b of Rng.
 fn is_allowed(k: Word, a: Word, b: Word, c: Word) -> bool
     ensures answer { Decides result (Allowed product.top k a b c) }
 {
-    if TOP < a {
-        return false;
-    }
-    if TOP < b {
-        return false;
-    }
-    if TOP < c {
-        return false;
-    }
-    if a == MARK {
-        return false;
-    }
-    if c == MARK {
-        return false;
-    }
-    if b != MARK {
-        return true;
-    }
-    if k == RANGE {
-        return true;
-    }
-    false
+    a <= TOP && b <= TOP && c <= TOP && a != MARK && c != MARK && (b != MARK || k == RANGE)
 }
 
 // Whether a word is a fact's.
@@ -218,8 +187,5 @@ pub fn is_fact(word: Word) -> bool
     let a = first_of(word);
     let b = second_of(word);
     let c = third_of(word);
-    if is_shaped(k, b, c) {
-        return is_allowed(k, a, b, c);
-    }
-    false
+    is_shaped(k, b, c) && is_allowed(k, a, b, c)
 }

@@ -1,44 +1,14 @@
 -- Bytes put over lent ones, piece after piece. Assumes nothing.
-use Prim.Native.Nat.{ℕ, ◌+◌, ◌≤◌, ◌<◌}
+use Prim.Native.Nat.{ℕ, ◌+◌, ◌<◌}
 use mathlib.Core.Path.{◌≡◌, refl, sym, ap, subst, ◌∙◌}
-use mathlib.Core.List.{List, [], ◌∷◌, ◌++◌, append_assoc}
+use mathlib.Core.List.{List, [], ◌∷◌, ◌++◌}
 use native.Mathlib.Omega.{arith}
 use native.Mathlib.Numerals.{add-one}
-use lib.ListN.{length, get_or, set, take, drop, length-append, take-append-drop}
-use lib.Seq.{paste, paste-zero, paste-suc, length-paste, set_split, take_all}
+use lib.ListN.{length, set, take, drop, length-append, take-append-drop}
+use lib.Seq.{set_split}
 use Rattle.table.specs.Overlay.{over}
 use Rattle.table.proofs.Overlaid.{over_length, over_more}
 use Rattle.terms.specs.Putting.{Room, Puts}
-
--- The first `done` bytes of a piece are put.
-pub record PiecePut (out₀ : List ℕ) (at : ℕ) (piece out : List ℕ) (done : ℕ) : Type 0 where
-  pub within : done ≤ length piece
-  pub so_far : out ≡ paste out₀ at piece done
-
-pub piece_start : (out : List ℕ) (at : ℕ) (piece : List ℕ) → PiecePut out at piece out 0
-piece_start out at piece = record { within = omega arith; so_far = paste-zero out at piece }
-
-module _ {out₀ : List ℕ} {at : ℕ} {piece out : List ℕ} {done : ℕ} (p : PiecePut out₀ at piece out done)
-    (room : Room out₀ at piece) where
-  pub piece_length : length out ≡ length out₀
-  piece_length = ap length p.so_far ∙ length-paste out₀ at piece done (omega (arith, p.within)) p.within
-
-  pub piece_more : done < length piece → PiecePut out₀ at piece (set out (at + done) (get_or piece done 0)) (done + 1)
-  piece_more h = record {
-    within = omega arith;
-    so_far = ap (λ l. set l (at + done) (get_or piece done 0)) p.so_far
-        ∙ (paste-suc out₀ at piece done 0 (omega arith) h ∙ ap (paste out₀ at piece) (sym (add-one done)));
-  }
-
-  pub piece_all : length piece ≤ done → Puts out₀ at piece out (at + done)
-  piece_all h =
-      let all : done ≡ length piece = omega (arith, p.within) in
-      record {
-        bytes_are = p.so_far ∙ (ap (λ n. paste out₀ at piece n) all
-            ∙ (append_assoc (take at out₀) (take (length piece) piece) (drop (at + length piece) out₀)
-            ∙ ap (λ l. take at out₀ ++ (l ++ drop (at + length piece) out₀)) (take_all (length piece) piece (omega arith))));
-        end = ap (λ n. at + n) all;
-      }
 
 -- Nothing put; one byte put.
 pub puts_none : (out : List ℕ) (at : ℕ) → Puts out at [] out at

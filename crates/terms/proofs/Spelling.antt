@@ -6,11 +6,12 @@ use mathlib.Core.Logic.{⊎_elim}
 use mathlib.Core.List.{List, [], ◌∷◌, ◌++◌, append_assoc, append_cancel_left}
 use native.Mathlib.Omega.{arith}
 use lib.Dec.{T, eqb}
+use Rattle.std.proofs.Common.{Option, None, Some}
 use Rattle.rdfs.specs.Numbers.{product}
 use Rattle.rdfs.specs.Lists.{◌∈◌, here, there, all}
 use Rattle.rdfs.proofs.Lists.ListLaws.{all_in, in_append, in_one}
 use Rattle.rdfs.proofs.Lists.Tests.{and_both, both_and, differ, differs}
-use Rattle.terms.specs.Terms.{bytes, decimal, spelt, Proper}
+use Rattle.terms.specs.Terms.{bytes, decimal, spelt, spelling, Proper, ProperSome}
 use Rattle.terms.specs.TermRead.{is_digit}
 use Rattle.terms.specs.declared.term.Term.{Term}
 use Rattle.terms.specs.declared.term.Term.TheVariants.{
@@ -24,7 +25,6 @@ use Rattle.terms.specs.declared.term.Term.TheVariants.{
   Domain,
   Range,
   Exclusive,
-  Other,
 }
 use Rattle.terms.proofs.IdSpelt.{id_number}
 use Rattle.terms.proofs.Decimal.{decimal_digits, decimal_one_to_one, digit_range, span_unique}
@@ -59,7 +59,6 @@ seen SubPropertyOf p = seen_fixed (there (there (there (there (here refl)))))
 seen Domain p = seen_fixed (there (there (there (there (there (here refl))))))
 seen Range p = seen_fixed (there (there (there (there (there (there (here refl)))))))
 seen Exclusive p = seen_fixed (there (there (there (there (there (there (there (there (there (here refl))))))))))
-seen Other p = absurd p
 
 -- The IRI of an id from 2 on.
 pub spelt_id : (n : ℕ) → 2 ≤ n → spelt (Id n) ≡ id_front ++ (decimal n ++ bytes ">")
@@ -164,3 +163,14 @@ pub spelt_free : (t : Term) → Proper product.top t → (x : ℕ) → x ∈ spe
 spelt_free t p x m =
     let both = and_both (not (eqb x 32)) (not (eqb x 10)) (plain_seen (seen t p) x m) in
     (differ both.0, differ both.1)
+
+-- The same where there may be no term.
+pub spelling_one : (t u : Option Term) (r s : List ℕ) → ProperSome product.top t → ProperSome product.top u
+    → spelling t ++ r ≡ spelling u ++ s → (t ≡ u) × (r ≡ s)
+spelling_one None u r s p q e = absurd p
+spelling_one (Some t) None r s p q e = absurd q
+spelling_one (Some t) (Some u) r s p q e = let one = spelt_one t u r s p q e in (ap Some one.0, one.1)
+
+pub spelling_free : (t : Option Term) → ProperSome product.top t → (x : ℕ) → x ∈ spelling t → (x ≡ 32 → ⊥) × (x ≡ 10 → ⊥)
+spelling_free None p x m = absurd p
+spelling_free (Some t) p x m = spelt_free t p x m

@@ -1,5 +1,5 @@
 -- The terms of the profile of N-Triples, each as the bytes that spell it.
-use Rattle.std.specs.Prelude.{ℕ, zero, suc, ◌+◌, ◌/◌, ◌%◌, ◌≤◌, cond, List, [], ◌∷◌, ◌++◌, eqb, ltb}
+use Rattle.std.specs.Prelude.{ℕ, zero, suc, ◌+◌, ◌/◌, ◌%◌, ◌≤◌, cond, List, [], ◌∷◌, ◌++◌, eqb, ltb, Option, None, Some}
 use Prim.Native.String.{String, [] as none, ◌∷◌ as ◌then◌}
 use Prim.Native.Char.{code}
 use Rattle.terms.specs.declared.term.Term.{Term}
@@ -14,7 +14,6 @@ use Rattle.terms.specs.declared.term.Term.TheVariants.{
   Domain,
   Range,
   Exclusive,
-  Other,
 }
 
 -- The bytes of a text of ASCII characters.
@@ -45,7 +44,7 @@ id_term n =
     cond (eqb n 0) (rdfs "Resource>") (cond (eqb n 1) (rdfs "Literal>")
     (bytes "<urn:id:" ++ (decimal n ++ bytes ">")))
 
--- The bytes of a term. `Other` is no term.
+-- The bytes of a term.
 abbrev pub spelt : Term → List ℕ
 spelt (Id n) = id_term n
 spelt (Literal n) = bytes "\"" ++ (decimal n ++ bytes "\"")
@@ -57,7 +56,11 @@ spelt SubPropertyOf = rdfs "subPropertyOf>"
 spelt Domain = rdfs "domain>"
 spelt Range = rdfs "range>"
 spelt Exclusive = bytes "<urn:mark:excl>"
-spelt Other = []
+
+-- The same where there may be no term: then no byte.
+abbrev pub spelling : Option Term → List ℕ
+spelling None = []
+spelling (Some t) = spelt t
 
 -- Bytes with a blank behind them.
 abbrev pub ended : List ℕ → List ℕ
@@ -75,4 +78,8 @@ Proper top SubPropertyOf = Unit {0}
 Proper top Domain = Unit {0}
 Proper top Range = Unit {0}
 Proper top Exclusive = Unit {0}
-Proper top Other = ⊥
+
+-- There is a term, and it is a proper one.
+abbrev pub ProperSome : ℕ → Option Term → Type 0
+ProperSome top None = ⊥
+ProperSome top (Some t) = Proper top t

@@ -11,5 +11,5 @@ mod term;
 
 pub use measure::term_length;
 pub use put::{put_ended, put_piece};
-pub use read::{Ended, has_at, read_ended};
+pub use read::read_ended;
 pub use term::Term;

@@ -6,6 +6,7 @@ use crate::term::Term;
 use table::{MARK, RESOURCE, Word};
 
 // The length of a number in decimal.
+// The loop divides and counts no index: a `for` would be no plainer.
 fn decimal_length(n: Word) -> usize
     ensures answer { result ≡ length (decimal n) }
 {
@@ -46,6 +47,5 @@ pub fn term_length(term: Term) -> usize
         Term::Domain => 45,
         Term::Range => 44,
         Term::Exclusive => 15,
-        Term::Other => 0,
     }
 }

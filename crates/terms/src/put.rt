@@ -1,23 +1,26 @@
 // Terms put into lent bytes. Each function answers the place after what it put.
 ghost use Rattle.std.specs.Prelude.{◌++◌};
-ghost use Rattle.terms.specs.Terms.{bytes, decimal, id_term, spelt};
+ghost use Rattle.terms.specs.Terms.{decimal, id_term, spelt};
 ghost use Rattle.terms.specs.Terms.{ended};
 ghost use Rattle.terms.specs.Putting.{Room, Puts};
 
 use crate::term::Term;
 use table::{MARK, RESOURCE, Word};
 
+// What stands in front of the local names of RDF and of RDF Schema.
+const RDF: &[u8] = b"<http://www.w3.org/1999/02/22-rdf-syntax-ns#";
+
+const RDFS: &[u8] = b"<http://www.w3.org/2000/01/rdf-schema#";
+
 // Puts a piece of text.
+// All that put take the output and a place in it, as `Puts` and `Room` say where bytes stand.
 pub fn put_piece(output: &mut [u8], at: usize, piece: &[u8]) -> usize
     requires room { Room output.old at piece.now }
     ensures bytes { Puts output.old at piece.now output.new result }
 {
-    let mut done = 0;
-    while done < piece.len() {
-        output[at + done] = piece[done];
-        done += 1;
-    }
-    at + done
+    let next = at + piece.len();
+    output[at..next].copy_from_slice(piece);
+    next
 }
 
 // Puts a number in decimal.
@@ -34,24 +37,12 @@ pub fn put_decimal(output: &mut [u8], at: usize, n: Word) -> usize
     last + 1
 }
 
-// Puts an IRI of RDF, by its local name with the closing `>`.
-fn put_rdf(output: &mut [u8], at: usize, name: &[u8]) -> usize
-    requires room { Room output.old at
-        (bytes "<http://www.w3.org/1999/02/22-rdf-syntax-ns#" ++ name.now) }
-    ensures bytes { Puts output.old at
-        (bytes "<http://www.w3.org/1999/02/22-rdf-syntax-ns#" ++ name.now) output.new result }
+// Puts an IRI, by what stands in front of its local name and the local name with the closing `>`.
+fn put_named(output: &mut [u8], at: usize, front: &[u8], name: &[u8]) -> usize
+    requires room { Room output.old at (front.now ++ name.now) }
+    ensures bytes { Puts output.old at (front.now ++ name.now) output.new result }
 {
-    let next = put_piece(output, at, b"<http://www.w3.org/1999/02/22-rdf-syntax-ns#");
-    put_piece(output, next, name)
-}
-
-// Puts an IRI of RDF Schema, by its local name with the closing `>`.
-fn put_rdfs(output: &mut [u8], at: usize, name: &[u8]) -> usize
-    requires room { Room output.old at (bytes "<http://www.w3.org/2000/01/rdf-schema#" ++ name.now) }
-    ensures bytes { Puts output.old at
-        (bytes "<http://www.w3.org/2000/01/rdf-schema#" ++ name.now) output.new result }
-{
-    let next = put_piece(output, at, b"<http://www.w3.org/2000/01/rdf-schema#");
+    let next = put_piece(output, at, front);
     put_piece(output, next, name)
 }
 
@@ -72,10 +63,10 @@ fn put_id(output: &mut [u8], at: usize, n: Word) -> usize
     ensures bytes { Puts output.old at (id_term n) output.new result }
 {
     if n == RESOURCE {
-        return put_rdfs(output, at, b"Resource>");
+        return put_named(output, at, RDFS, b"Resource>");
     }
     if n == MARK {
-        return put_rdfs(output, at, b"Literal>");
+        return put_named(output, at, RDFS, b"Literal>");
     }
     put_number(output, at, b"<urn:id:", n, b">")
 }
@@ -88,15 +79,14 @@ fn put_term(output: &mut [u8], at: usize, term: Term) -> usize
     match term {
         Term::Id(n) => put_id(output, at, n),
         Term::Literal(n) => put_number(output, at, b"\"", n, b"\""),
-        Term::RdfType => put_rdf(output, at, b"type>"),
-        Term::Property => put_rdf(output, at, b"Property>"),
-        Term::Class => put_rdfs(output, at, b"Class>"),
-        Term::SubClassOf => put_rdfs(output, at, b"subClassOf>"),
-        Term::SubPropertyOf => put_rdfs(output, at, b"subPropertyOf>"),
-        Term::Domain => put_rdfs(output, at, b"domain>"),
-        Term::Range => put_rdfs(output, at, b"range>"),
+        Term::RdfType => put_named(output, at, RDF, b"type>"),
+        Term::Property => put_named(output, at, RDF, b"Property>"),
+        Term::Class => put_named(output, at, RDFS, b"Class>"),
+        Term::SubClassOf => put_named(output, at, RDFS, b"subClassOf>"),
+        Term::SubPropertyOf => put_named(output, at, RDFS, b"subPropertyOf>"),
+        Term::Domain => put_named(output, at, RDFS, b"domain>"),
+        Term::Range => put_named(output, at, RDFS, b"range>"),
         Term::Exclusive => put_piece(output, at, b"<urn:mark:excl>"),
-        Term::Other => at,
     }
 }
 

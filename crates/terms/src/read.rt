@@ -1,248 +1,146 @@
-// Terms read from a text.
-ghost use Rattle.std.specs.Prelude.{◌≡◌, false, ◌++◌, ◌≤◌, length, drop};
-ghost use Rattle.table.specs.Answers.{Decides};
+// Terms read from the start of a text. Each function answers what it read and the text behind it, or none.
+ghost use Rattle.std.specs.Prelude.{◌≡◌, false, ◌++◌, MatchOption};
 ghost use Rattle.terms.specs.Terms.{bytes};
-ghost use Rattle.terms.specs.TermRead.{Begins, is_digit, digit_at};
-ghost use Rattle.terms.specs.TermRead.{DigitsRead, NumberRead, TermRead, EndedRead};
+ghost use Rattle.terms.specs.TermRead.{is_digit, DigitRead, NoDigit, DigitsRead, NoDigits};
+ghost use Rattle.terms.specs.TermRead.{NumberRead, NoNumber, TermRead, NoTerm, EndedRead, NotEnded};
 
-use crate::measure::term_length;
 use crate::term::Term;
 use table::{MARK, RESOURCE, TOP, Word};
 
-// A number read, 0 for none, and the place after its digits.
-#[derive(Clone, Copy)]
-struct Number {
-    value: Word,
-    next: usize,
-}
-
-// A term read, and the place after the blank behind it.
-#[derive(Clone, Copy)]
-pub struct Ended {
-    pub term: Term,
-    pub next: usize,
-}
-
-// Whether a text has a piece from place `at` on. There is no return from the loop, so that several bytes are
-// compared at a time.
-pub fn has_at(text: &[u8], at: usize, piece: &[u8]) -> bool
-    requires place { at ≤ length text.now }
-    ensures answer { Decides result (Begins (drop at text.now) piece.now) }
+// The value of a decimal digit.
+fn read_digit(text: &[u8]) -> Option<(Word, &[u8])>
+    ensures answer { MatchOption result (NoDigit text.now)
+        (λ read. DigitRead text.now read.0 read.1.now) }
 {
-    if text.len() - at < piece.len() {
-        return false;
+    let (byte, rest) = text.split_first()?;
+    if byte.is_ascii_digit() {
+        Some(((*byte - b'0') as Word, rest))
+    } else {
+        None
     }
-    let mut same = true;
-    let mut done = 0;
-    while done < piece.len() {
-        if text[at + done] != piece[done] {
-            same = false;
-        }
-        done += 1;
-    }
-    same
 }
 
-// The value of a decimal digit; 10 for another byte, and where the text ends.
-fn digit_at(text: &[u8], at: usize) -> Word
-    ensures answer { result ≡ digit_at text.now at }
+// The number whose digits stand at the start, the first of them not 0; none for a number above the highest id.
+fn read_digits(text: &[u8]) -> Option<(Word, &[u8])>
+    ensures answer { MatchOption result (NoDigits text.now)
+        (λ read. DigitsRead text.now read.0 read.1.now) }
 {
-    if at < text.len() {
-        let byte = text[at];
-        if byte < 48 {
-            return 10;
-        }
-        if 57 < byte {
-            return 10;
-        }
-        return (byte - 48) as Word;
+    let (first, behind) = read_digit(text)?;
+    if first == 0 {
+        return None;
     }
-    10
-}
-
-// The number whose digits stand from place `at` on, the first of them not 0; 0 for none, and for a number
-// above the highest id.
-fn read_digits(text: &[u8], at: usize) -> Number
-    requires place { at ≤ length text.now }
-    ensures answer { DigitsRead (drop at text.now) result.value
-        (drop result.next text.now) }
-    ensures within { result.next ≤ length text.now }
-{
-    let mut value = digit_at(text, at);
-    if value == 0 {
-        return Number { value: 0, next: at };
-    }
-    if 9 < value {
-        return Number { value: 0, next: at };
-    }
-    let mut next = at + 1;
-    while value <= TOP {
-        let digit = digit_at(text, next);
-        if 9 < digit {
-            return Number { value, next };
-        }
+    let mut value = first;
+    let mut rest = behind;
+    while let Some((digit, next)) = read_digit(rest) {
         value = 10 * value + digit;
-        next += 1;
-    }
-    Number { value: 0, next: at }
-}
-
-// The number from 2 on whose digits stand from place `at` on, with the byte `end` behind them; 0 for none.
-fn read_number(text: &[u8], at: usize, end: u8) -> Word
-    requires place { at ≤ length text.now }
-    requires end { is_digit end ≡ false }
-    ensures answer { NumberRead (drop at text.now) end result }
-{
-    let number = read_digits(text, at);
-    if number.value < 2 {
-        return 0;
-    }
-    let next = number.next;
-    if next < text.len() {
-        if text[next] == end {
-            return number.value;
+        rest = next;
+        if TOP < value {
+            return None;
         }
     }
-    0
+    Some((value, rest))
 }
 
-// The term of the IRI of an id from 2 on, of which `<urn:id:` is read.
-fn id_at(text: &[u8], at: usize) -> Term
-    requires place { at ≤ length text.now }
-    ensures answer { TermRead (bytes "<urn:id:" ++ drop at text.now) result }
+// The number from 2 on whose digits stand at the start, with the byte `end` behind them.
+fn read_number(text: &[u8], end: u8) -> Option<(Word, &[u8])>
+    requires end { is_digit end ≡ false }
+    ensures answer { MatchOption result (NoNumber text.now end)
+        (λ read. NumberRead text.now end read.0 read.1.now) }
 {
-    let n = read_number(text, at, b'>');
-    if n == 0 {
-        return Term::Other;
+    let (value, behind) = read_digits(text)?;
+    let (byte, rest) = behind.split_first()?;
+    if 2 <= value && *byte == end {
+        Some((value, rest))
+    } else {
+        None
     }
-    Term::Id(n)
 }
 
 // The IRI of an id from 2 on, or the object of a line of Excl, of which `<urn:` is read.
-fn urn_at(text: &[u8], at: usize) -> Term
-    requires place { at ≤ length text.now }
-    ensures answer { TermRead (bytes "<urn:" ++ drop at text.now) result }
+fn urn_at(text: &[u8]) -> Option<(Term, &[u8])>
+    ensures answer { MatchOption result (NoTerm (bytes "<urn:" ++ text.now))
+        (λ read. TermRead (bytes "<urn:" ++ text.now) read.0 read.1.now) }
 {
-    let id = has_at(text, at, b"id:");
-    if id {
-        return id_at(text, at + 3);
+    if let Some(digits) = text.strip_prefix(b"id:") {
+        let (n, rest) = read_number(digits, b'>')?;
+        return Some((Term::Id(n), rest));
     }
-    let is_exclusive = has_at(text, at, b"mark:excl>");
-    if is_exclusive {
-        return Term::Exclusive;
+    if let Some(rest) = text.strip_prefix(b"mark:excl>") {
+        return Some((Term::Exclusive, rest));
     }
-    Term::Other
-}
-
-// The term of a literal, of which the first quotation mark is read.
-fn literal_at(text: &[u8], at: usize) -> Term
-    requires place { at ≤ length text.now }
-    ensures answer { TermRead (bytes "\"" ++ drop at text.now) result }
-{
-    let n = read_number(text, at, b'"');
-    if n == 0 {
-        return Term::Other;
-    }
-    Term::Literal(n)
+    None
 }
 
 // A term of RDF, by its local name with the closing `>`; the rest is read.
-fn rdf_at(text: &[u8], at: usize) -> Term
-    requires place { at ≤ length text.now }
-    ensures answer { TermRead
-        (bytes "<http://www.w3.org/1999/02/22-rdf-syntax-ns#" ++ drop at text.now) result }
+// With `rdfs_at` and `urn_at` it differs in which names it tries, and how many: one function over a list of
+// names would be no plainer, as each name has its own term.
+fn rdf_at(text: &[u8]) -> Option<(Term, &[u8])>
+    ensures answer { MatchOption result (NoTerm (bytes "<http://www.w3.org/1999/02/22-rdf-syntax-ns#" ++ text.now))
+        (λ read. TermRead (bytes "<http://www.w3.org/1999/02/22-rdf-syntax-ns#" ++ text.now) read.0 read.1.now) }
 {
-    let is_type = has_at(text, at, b"type>");
-    if is_type {
-        return Term::RdfType;
+    if let Some(rest) = text.strip_prefix(b"type>") {
+        return Some((Term::RdfType, rest));
     }
-    let is_property = has_at(text, at, b"Property>");
-    if is_property {
-        return Term::Property;
+    if let Some(rest) = text.strip_prefix(b"Property>") {
+        return Some((Term::Property, rest));
     }
-    Term::Other
+    None
 }
 
 // A term of RDF Schema, by its local name with the closing `>`; the rest is read.
-fn rdfs_at(text: &[u8], at: usize) -> Term
-    requires place { at ≤ length text.now }
-    ensures answer { TermRead
-        (bytes "<http://www.w3.org/2000/01/rdf-schema#" ++ drop at text.now) result }
+fn rdfs_at(text: &[u8]) -> Option<(Term, &[u8])>
+    ensures answer { MatchOption result (NoTerm (bytes "<http://www.w3.org/2000/01/rdf-schema#" ++ text.now))
+        (λ read. TermRead (bytes "<http://www.w3.org/2000/01/rdf-schema#" ++ text.now) read.0 read.1.now) }
 {
-    let is_subclass = has_at(text, at, b"subClassOf>");
-    if is_subclass {
-        return Term::SubClassOf;
+    if let Some(rest) = text.strip_prefix(b"subClassOf>") {
+        return Some((Term::SubClassOf, rest));
     }
-    let is_resource = has_at(text, at, b"Resource>");
-    if is_resource {
-        return Term::Id(RESOURCE);
+    if let Some(rest) = text.strip_prefix(b"Resource>") {
+        return Some((Term::Id(RESOURCE), rest));
     }
-    let is_class = has_at(text, at, b"Class>");
-    if is_class {
-        return Term::Class;
+    if let Some(rest) = text.strip_prefix(b"Class>") {
+        return Some((Term::Class, rest));
     }
-    let is_subproperty = has_at(text, at, b"subPropertyOf>");
-    if is_subproperty {
-        return Term::SubPropertyOf;
+    if let Some(rest) = text.strip_prefix(b"subPropertyOf>") {
+        return Some((Term::SubPropertyOf, rest));
     }
-    let is_domain = has_at(text, at, b"domain>");
-    if is_domain {
-        return Term::Domain;
+    if let Some(rest) = text.strip_prefix(b"domain>") {
+        return Some((Term::Domain, rest));
     }
-    let is_range = has_at(text, at, b"range>");
-    if is_range {
-        return Term::Range;
+    if let Some(rest) = text.strip_prefix(b"range>") {
+        return Some((Term::Range, rest));
     }
-    let is_mark = has_at(text, at, b"Literal>");
-    if is_mark {
-        return Term::Id(MARK);
+    if let Some(rest) = text.strip_prefix(b"Literal>") {
+        return Some((Term::Id(MARK), rest));
     }
-    Term::Other
+    None
 }
 
-// The term that stands from place `at` on.
-fn term_at(text: &[u8], at: usize) -> Term
-    requires place { at ≤ length text.now }
-    ensures answer { TermRead (drop at text.now) result }
+// The term that stands at the start.
+fn read_term(text: &[u8]) -> Option<(Term, &[u8])>
+    ensures answer { MatchOption result (NoTerm text.now)
+        (λ read. TermRead text.now read.0 read.1.now) }
 {
-    let urn = has_at(text, at, b"<urn:");
-    if urn {
-        return urn_at(text, at + 5);
+    if let Some(name) = text.strip_prefix(b"<urn:") {
+        return urn_at(name);
     }
-    let rdfs = has_at(text, at, b"<http://www.w3.org/2000/01/rdf-schema#");
-    if rdfs {
-        return rdfs_at(text, at + 38);
+    if let Some(name) = text.strip_prefix(b"<http://www.w3.org/2000/01/rdf-schema#") {
+        return rdfs_at(name);
     }
-    let rdf = has_at(text, at, b"<http://www.w3.org/1999/02/22-rdf-syntax-ns#");
-    if rdf {
-        return rdf_at(text, at + 44);
+    if let Some(name) = text.strip_prefix(b"<http://www.w3.org/1999/02/22-rdf-syntax-ns#") {
+        return rdf_at(name);
     }
-    let literal = has_at(text, at, b"\"");
-    if literal {
-        return literal_at(text, at + 1);
-    }
-    Term::Other
+    let digits = text.strip_prefix(b"\"")?;
+    let (n, rest) = read_number(digits, b'"')?;
+    Some((Term::Literal(n), rest))
 }
 
-// The term with a blank behind it that stands from place `at` on.
-pub fn read_ended(text: &[u8], at: usize) -> Ended
-    requires place { at ≤ length text.now }
-    ensures answer { EndedRead (drop at text.now) result.term
-        (drop result.next text.now) }
-    ensures within { result.next ≤ length text.now }
+// The term with a blank behind it that stands at the start.
+pub fn read_ended(text: &[u8]) -> Option<(Term, &[u8])>
+    ensures answer { MatchOption result (NotEnded text.now)
+        (λ read. EndedRead text.now read.0 read.1.now) }
 {
-    let term = term_at(text, at);
-    let end = at + term_length(term);
-    if end < text.len() {
-        if text[end] == b' ' {
-            return Ended {
-                term,
-                next: end + 1,
-            };
-        }
-    }
-    Ended {
-        term: Term::Other,
-        next: at,
-    }
+    let (term, behind) = read_term(text)?;
+    let rest = behind.strip_prefix(b" ")?;
+    Some((term, rest))
 }

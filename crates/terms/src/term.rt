@@ -1,7 +1,7 @@
 // The terms of the profile.
 use table::Word;
 
-#[derive(Clone, Copy)]
+#[derive(Clone, Copy, PartialEq)]
 pub enum Term {
     // The IRI of an id: rdfs:Resource for 0, rdfs:Literal for the mark.
     Id(Word),
@@ -17,6 +17,4 @@ pub enum Term {
     Range,
     // The object of a line of Excl.
     Exclusive,
-    // No term of the profile.
-    Other,
 }

@@ -1,3 +1,2 @@
--- PutText: for put_number and the functions above it. DigitValues: for digit_of.
+-- PutText: for put_number and the functions above it.
 pub mod PutText
-pub mod DigitValues

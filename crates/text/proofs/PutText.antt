@@ -1,17 +1,17 @@
 -- Text put into a buffer piece by piece. Assumes nothing.
 use Prim.Native.Nat.{ℕ, zero, suc, ◌+◌, ◌-◌, ◌/◌, ◌%◌, ◌^◌, ◌≤◌, ◌<◌}
 use mathlib.Core.Path.{◌≡◌, refl, sym, ap, subst, ◌∙◌}
-use mathlib.Core.List.{List, [], ◌∷◌, ◌++◌, append_assoc, append-nil}
+use mathlib.Core.List.{List, [], ◌∷◌, ◌++◌, append_assoc}
 use native.Mathlib.Omega.{arith}
 use native.Mathlib.Numerals.{add-one}
-use native.Mathlib.Nat.{add-zero, pow-le-pow_right}
+use native.Mathlib.Nat.{pow-le-pow_right}
 use native.Mathlib.Decide.{dec_le}
-use lib.ListN.{length, take, get_or, set, length-append}
-use lib.Seq.{take-suc, take-suc-set}
+use lib.ListN.{length, take, set, length-append}
+use lib.Seq.{take-suc-set}
 use Rattle.io.specs.Digits.{hex_digit_ascii, last_digits, IsDigitCount}
 use Rattle.text.specs.Text.{Number, Fits, Puts}
 
-digits_length : (k n : ℕ) → length (last_digits 10 k n) ≡ k
+pub digits_length : (k n : ℕ) → length (last_digits 10 k n) ≡ k
 digits_length zero n = refl
 digits_length (suc k) n = length-append (last_digits 10 k (n / 10)) (hex_digit_ascii (n % 10) ∷ [])
     ∙ (ap (λ m. m + 1) (digits_length k (n / 10)) ∙ add-one k)
@@ -43,35 +43,18 @@ module _ (d n x : ℕ) (one : 1 ≤ d) (h : n < 10 ^ d) where
 pub digits_fit : (n x at k : ℕ) (out : List ℕ) → Fits (Number n x) at out → IsDigitCount 10 1 n k → at + k < length out
 digits_fit n x at k out fits f = omega (arith, fits (last_digits 10 k n ++ (x ∷ [])) (k, f, refl), number_length k n x)
 
--- What is in the buffer up to place at + i: what was before, and i bytes of `new`.
-abbrev pub Copied : (at i : ℕ) (before new after : List ℕ) → Type 0
-Copied at i before new after = take (at + i) after ≡ take at before ++ take i new
-
-pub copied_none : (at : ℕ) (before new : List ℕ) → Copied at 0 before new before
-copied_none at before new = ap (λ k. take k before) (add-zero at) ∙ sym (append-nil (take at before))
-
 -- One byte more, at the end of what is there.
 put_next : (l : List ℕ) (k x : ℕ) → k < length l → take (k + 1) (set l k x) ≡ take k l ++ (x ∷ [])
 put_next l k x h = ap (λ m. take m (set l k x)) (add-one k) ∙ take-suc-set l k x h
 
-pub copied_more : (at i : ℕ) (before new after : List ℕ) → at + i < length after → i < length new → Copied at i before new after
-    → Copied at (i + 1) before new (set after (at + i) (get_or new i 0))
-copied_more at i before new after h k q =
-    let x : ℕ = get_or new i 0 in
-    let here : (at + (i + 1)) ≡ (at + i) + 1 = omega arith in
-    let longer : take i new ++ (x ∷ []) ≡ take (i + 1) new = sym (ap (λ m. take m new) (add-one i) ∙ take-suc new i 0 k) in
-    ap (λ m. take m (set after (at + i) x)) here ∙ (put_next after (at + i) x h ∙ (ap (λ l. l ++ (x ∷ [])) q
-    ∙ (append_assoc (take at before) (take i new) (x ∷ []) ∙ ap (λ l. take at before ++ l) longer)))
-
 -- Digits and the byte after them.
-pub number_put : (at n k x : ℕ) (before new after : List ℕ) → at + k < length after → IsDigitCount 10 1 n k
-    → take k new ≡ last_digits 10 k n
-    → Copied at k before new after
+pub number_put : (at n k x : ℕ) (before after : List ℕ) → at + k < length after → IsDigitCount 10 1 n k
+    → take (at + k) after ≡ take at before ++ last_digits 10 k n
     → Puts (Number n x) at (at + k + 1) before (set after (at + k) x)
-number_put at n k x before new after h f e q = record {
+number_put at n k x before after h f q = record {
   text = last_digits 10 k n ++ (x ∷ []);
   is = (k, f, refl);
-  there = put_next after (at + k) x h ∙ (ap (λ l. l ++ (x ∷ [])) (q ∙ ap (λ l. take at before ++ l) e)
+  there = put_next after (at + k) x h ∙ (ap (λ l. l ++ (x ∷ [])) q
       ∙ append_assoc (take at before) (last_digits 10 k n) (x ∷ []));
   end = omega (arith, number_length k n x);
 }

@@ -15,16 +15,14 @@ pub fn put_number(out: &mut [u8], at: usize, number: u64, after: u8) -> usize
 {
     let mut digits = [0u8; 20];
     let count = io::decimal(number, &mut digits);
-    let mut place = 0;
-    while place < count {
-        out[at + place] = digits[place];
-        place += 1;
-    }
-    out[at + count] = after;
-    at + count + 1
+    let end = at + count;
+    out[at..end].copy_from_slice(&digits[..count]);
+    out[end] = after;
+    end + 1
 }
 
-// The value of a hexadecimal digit, 0 to 9 or a to f; 0 for another byte.
+// The value of a hexadecimal digit, 0 to 9 or a to f; 0 for another byte. (std's `to_digit` takes large letters
+// too.)
 pub fn digit_of(byte: u8) -> u8
     ensures answer { result ≡ digit_value byte }
     ensures bound { result < 16 }

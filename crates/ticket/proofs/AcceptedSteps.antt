@@ -6,6 +6,7 @@ use mathlib.Core.List.{List, map}
 use native.Mathlib.Omega.{arith}
 use lib.Dec.{T, ltb→lt}
 use lib.ListN.{length}
+use Rattle.std.specs.Prelude.{Ok, Err}
 use Rattle.rdfs.specs.Numbers.{product}
 use Rattle.rdfs.specs.Facts.{Fact}
 use Rattle.rdfs.specs.Words.{word, filled, facts, words, padded}
@@ -23,23 +24,25 @@ use Rattle.rdfs.proofs.Tickets.Steps.{table_sane, step_number, accepted_leaves}
 use Rattle.rdfs.proofs.Insertion.InsertionSteps.{new_is, insertion_grows}
 use Rattle.rdfs.proofs.Deletion.DeletionSteps as steps
 use Rattle.rdfs.proofs.Theorems.{product_sound}
+use Rattle.table.specs.declared.refusals.Refusal.{Refusal}
+use Rattle.table.specs.Refused.{number}
 use Rattle.ticket.specs.Answered.{Stepped}
-use Rattle.ticket.specs.declared.step.Step.TheVariants.{Facts, Refused}
 use Rattle.ticket.proofs.RefusedSteps.{clash_free}
 
 module _ (w bytes : List ℕ) where
   -- A refused step.
-  pub stepped_refused : (n k : ℕ) → step product w bytes ≡ refused_with k w → Stepped n (Refused k) w (step product w bytes)
-  stepped_refused n k e =
-      subst (Stepped n (Refused k) w) (sym e) (record { number = refl; added = refl; removed = refl; words = refl; fits = tt })
+  pub stepped_refused : (n : ℕ) (refusal : Refusal) → step product w bytes ≡ refused_with (number refusal) w
+      → Stepped n (Err refusal) w (step product w bytes)
+  stepped_refused n refusal e =
+      subst (Stepped n (Err refusal) w) (sym e) (record { number = refl; added = refl; removed = refl; words = refl; fits = tt })
 
   module _ (t : Table product w) (n : ℕ) (c : n ≡ length (filled w)) where
     pub count_fits : n ≤ product.most
     count_fits = omega (arith, c, ap length (laid_words product w t.laid), laid_fits product w t.laid, t.fits)
 
     -- A step that changes nothing.
-    pub stepped_same : step product w bytes ≡ unchanged w → Stepped n (Facts n) w (step product w bytes)
-    stepped_same e = subst (Stepped n (Facts n) w) (sym e) (record {
+    pub stepped_same : step product w bytes ≡ unchanged w → Stepped n (Ok n) w (step product w bytes)
+    stepped_same e = subst (Stepped n (Ok n) w) (sym e) (record {
       number = refl;
       added = omega arith;
       removed = omega arith;
@@ -60,7 +63,7 @@ module _ (w bytes : List ℕ) where
     stepped_changed : (K : List Fact) (m : ℕ) → new product w bytes ≡ K → m ≡ length (words product K) → m ≤ length w
         → (step product w bytes).number ≡ 0
         → ((step product w bytes).added ≡ 0) ⊎ ((step product w bytes).removed ≡ 0)
-        → Stepped n (Facts m) (padded (length w) (words product K)) (step product w bytes)
+        → Stepped n (Ok m) (padded (length w) (words product K)) (step product w bytes)
     stepped_changed K m same d room e z =
         let after : m ≡ length (words product (new product w bytes)) = d ∙ ap (λ L. length (words product L)) (sym same) in
         record {
@@ -76,7 +79,7 @@ module _ (w bytes : List ℕ) where
       pub stepped_inserted : T (inserts (decoded bytes)) → Known (facts product w) (decoded bytes)
           → (T (lookup_clash (facts product w) (decoded bytes)) → ⊥)
           → m ≡ length (words product (insertion product.top (facts product w) (asked (decoded bytes)))) → m ≤ length w
-          → Stepped n (Facts m) (padded (length w) (words product (insertion product.top (facts product w)
+          → Stepped n (Ok m) (padded (length w) (words product (insertion product.top (facts product w)
           (asked (decoded bytes))))) (step product w bytes)
       stepped_inserted i k free d room =
           let same = new_is product product_sound w bytes t i in
@@ -93,7 +96,7 @@ module _ (w bytes : List ℕ) where
       -- A deletion.
       pub stepped_deleted : T (deletes (decoded bytes))
           → m ≡ length (words product (deletion (facts product w) (named (decoded bytes)))) → m ≤ length w
-          → Stepped n (Facts m) (padded (length w) (words product (deletion (facts product w) (named (decoded bytes)))))
+          → Stepped n (Ok m) (padded (length w) (words product (deletion (facts product w) (named (decoded bytes)))))
           (step product w bytes)
       stepped_deleted g d room = stepped_changed _ m (steps.new_is product product_sound w bytes t g f) d room
           (steps.deletion_accepted product product_sound w bytes t g f)

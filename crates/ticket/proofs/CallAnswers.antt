@@ -5,18 +5,20 @@ use mathlib.Core.Logic.{⊎_elim}
 use mathlib.Core.List.{List}
 use lib.Dec.{eqb→eq}
 use lib.ListN.{length}
+use Rattle.std.specs.Prelude.{Err}
 use Rattle.rdfs.specs.Numbers.{product}
 use Rattle.rdfs.specs.Words.{filled}
 use Rattle.rdfs.specs.Register.{Answer, refused_with, Table}
 use Rattle.rdfs.specs.Tickets.{ticket_of}
 use Rattle.rdfs.proofs.Tickets.TicketTests.{known_operation}
+use Rattle.table.specs.declared.refusals.Refusal.{Refusal}
+use Rattle.table.specs.Refused.{number, answer_of}
 use Rattle.ticket_form.specs.TicketForm.{sense, bytes_of, record_of, form_refusal}
 use Rattle.ticket_form.specs.declared.fields.Ticket.{Ticket}
 use Rattle.ticket_form.proofs.Formed.{form_passes}
+use Rattle.ticket_form.proofs.Numbered.{number_some}
 use Rattle.ticket.specs.Ready.{Ready}
-use Rattle.ticket.specs.Answered.{Answered, Valued, Stepped, refused_answer}
-use Rattle.ticket.specs.declared.answer.Applied.{Applied}
-use Rattle.ticket.specs.declared.step.Step.{Step}
+use Rattle.ticket.specs.Answered.{Outcome, added_by, removed_by, Answered, Step, added_of, removed_of, Stepped}
 
 -- A ticket by its fields, each made wide.
 module _ {o k a b c : ℕ} (t : Ticket) (eo : t.operation ≡ o) (ek : k ≡ t.kind) (ea : a ≡ t.a) (eb : b ≡ t.b) (ec : c ≡ t.c)
@@ -36,16 +38,20 @@ pub deletes_else : (t : Ticket) {r : ℕ} → r ≡ form_refusal (sense t) → r
 deletes_else t e z n = ⊎_elim (λ i. absurd (n (eqb→eq t.operation 1 i))) (eqb→eq t.operation 2)
     (known_operation (sense t) (form_passes (sense t) (sym e ∙ z)).operation)
 
--- The answer of a refused call, and of one that took an inner step.
-pub answered_refused : {w : List ℕ} {s : Answer} {r : Applied} {n : ℕ} → r ≡ refused_answer n → s ≡ refused_with n w
-    → Answered r w s
-answered_refused e q = rw (e, q) record { number = refl; added = refl; removed = refl; words = refl }
+-- No refusal has the number of none, for the crates above.
+pub refused_some : (refusal : Refusal) → number refusal ≡ 0 → ⊥
+refused_some = number_some
 
-pub answered_stepped : {r : Applied} {n : ℕ} {s : Step} {x : List ℕ} {a : Answer} → Valued r n s → Stepped n s x a
-    → Answered r x a
-answered_stepped v s = record {
-  number = v.number ∙ s.number;
-  added = v.added ∙ s.added;
-  removed = v.removed ∙ s.removed;
+-- The answer of a refused call, and of one that took an inner step.
+pub answered_refused : {w : List ℕ} {s : Answer} (refusal : Refusal) → s ≡ refused_with (number refusal) w
+    → Answered (Err refusal) w s
+answered_refused refusal q = rw q record { number = refl; added = refl; removed = refl; words = refl }
+
+pub answered_stepped : {n : ℕ} {s : Step} {r : Outcome} {x : List ℕ} {a : Answer} → Stepped n s x a
+    → answer_of r ≡ answer_of s → added_by r ≡ added_of n s → removed_by r ≡ removed_of n s → Answered r x a
+answered_stepped s e p q = record {
+  number = e ∙ s.number;
+  added = p ∙ s.added;
+  removed = q ∙ s.removed;
   words = s.words;
 }

@@ -23,11 +23,11 @@ use Rattle.rdfs.proofs.ExclusiveTheorems.{
   property_takes_exclusive,
   exclusive_taken_by,
 }
-use Rattle.ticket.specs.Answered.{ApplyPromise}
-use Rattle.ticket.specs.declared.answer.Applied.{Applied}
+use Rattle.table.specs.Refused.{answer_of}
+use Rattle.ticket.specs.Answered.{Outcome, ApplyPromise}
 
 -- On a consistent table.
-module _ (w b v : List ℕ) (r : Applied) (t : Table product w) (a : ApplyPromise w b r v) where
+module _ (w b v : List ℕ) (r : Outcome) (t : Table product w) (a : ApplyPromise w b r v) where
   abbrev ticket : defs.Ticket
   ticket = defs.decoded b
 
@@ -46,20 +46,20 @@ module _ (w b v : List ℕ) (r : Applied) (t : Table product w) (a : ApplyPromis
   module _ (k : ticket.kind ≡ 11) where
     -- Inserting Excl past refusal 8: 9 exactly if its id is no property of the table, whatever else it is.
     pub call_exclusive_nine : T (defs.inserts ticket) → Formed product b
-        → (r.answer ≡ 9 → pr ticket.a ∈ facts product w → ⊥)
-        × ((pr ticket.a ∈ facts product w → ⊥) → r.answer ≡ 9)
+        → (answer_of r ≡ 9 → pr ticket.a ∈ facts product w → ⊥)
+        × ((pr ticket.a ∈ facts product w → ⊥) → answer_of r ≡ 9)
     call_exclusive_nine i f = let x = exclusive_nine_is_exact product product_sound w b t k i f in
         ((λ e. x.0 (sym a.number ∙ e)), (λ n. a.number ∙ x.1 n))
 
     -- For a property of the table: 10 exactly if a value of it has two holders.
     pub call_exclusive_ten : T (defs.inserts ticket) → Formed product b → pr ticket.a ∈ facts product w
-        → (r.answer ≡ 10 → T (two_holders (facts product w) ticket.a))
-        × (T (two_holders (facts product w) ticket.a) → r.answer ≡ 10)
+        → (answer_of r ≡ 10 → T (two_holders (facts product w) ticket.a))
+        × (T (two_holders (facts product w) ticket.a) → answer_of r ≡ 10)
     call_exclusive_ten i f h = let x = exclusive_ten_is_exact product product_sound w b t k i f h in
         ((λ e. x.0 (sym a.number ∙ e)), (λ n. a.number ∙ x.1 n))
 
     -- Accepted, it adds that fact and no other.
-    pub call_exclusive_added_alone : T (defs.inserts ticket) → r.answer ≡ 0 → (g : Fact) → g ∈ facts product v
+    pub call_exclusive_added_alone : T (defs.inserts ticket) → answer_of r ≡ 0 → (g : Fact) → g ∈ facts product v
         → (g ∈ facts product w) ⊎ (g ≡ excl ticket.a)
     call_exclusive_added_alone i e g h =
         exclusive_added_alone product product_sound w b t k i (sym a.number ∙ e) g (left g h)
@@ -72,7 +72,7 @@ module _ (w b v : List ℕ) (r : Applied) (t : Table product w) (a : ApplyPromis
         ((λ h. x.0 (left g h)), (λ h n. to_left g (x.1 h n)))
 
   -- A deleted property takes its Excl along.
-  pub call_property_takes_exclusive : T (defs.deletes ticket) → ticket.kind ≡ 2 → r.answer ≡ 0
+  pub call_property_takes_exclusive : T (defs.deletes ticket) → ticket.kind ≡ 2 → answer_of r ≡ 0
       → excl ticket.a ∈ facts product v → ⊥
   call_property_takes_exclusive d k e h =
       property_takes_exclusive product product_sound w b t d k (sym a.number ∙ e) (left _ h)

@@ -2,11 +2,11 @@
 use Prim.Native.Nat.{ℕ, ◌-◌, ◌≤◌, ◌<◌}
 use mathlib.Core.Path.{◌≡◌, refl, sym, ap, subst, ◌∙◌}
 use mathlib.Core.Bool.{Bool, true, false}
-use mathlib.Core.List.{List, ◌++◌}
+use mathlib.Core.List.{List}
 use native.Mathlib.Omega.{arith}
 use lib.Dec.{T, eqb, ltb→lt}
-use lib.ListN.{length, take, drop, replicate, length-append, length-drop}
-use lib.Seq.{take-append_seam}
+use lib.ListN.{length, take, replicate, length-append}
+use Rattle.std.specs.Prelude.{Ok, Err}
 use Rattle.rdfs.specs.Numbers.{product}
 use Rattle.rdfs.specs.Lists.{all}
 use Rattle.rdfs.specs.Facts.{Fact, made, has}
@@ -25,16 +25,15 @@ use Rattle.rdfs.proofs.Tickets.TicketTests.{known_kind, known_provided}
 use Rattle.rdfs.proofs.Theorems.{product_sound}
 use Rattle.rdfs.proofs.Insertion.InsertionSteps.{new_is}
 use Rattle.rdfs.proofs.Insertion.Within.{repeated_insertion}
-use Rattle.table.specs.Counted.{facts_of}
-use Rattle.table.specs.Room.{cleared_from}
+use Rattle.table.specs.declared.refusals.Refusal.TheVariants.{UnknownProperty, UnknownClass, Clashing, TooMany as NoRoom}
+use Rattle.table.specs.Counted.{Counted, facts_of}
 use Rattle.table.proofs.CountedLaws.{counted_first, counted_search}
+use Rattle.table.proofs.CutTable.{cut_facts, cut_full}
 use Rattle.insertion.specs.GrowAnswers.{Insertable, GrowMeans}
-use Rattle.insertion.specs.declared.put.Grown.{Grown}
-use Rattle.insertion.specs.declared.put.Grown.TheVariants.{Facts as Grows, TooMany}
+use Rattle.std.specs.Prelude.{Option, Some, None}
 use Rattle.ticket_form.specs.TicketForm.{record_of, Asked}
 use Rattle.ticket.specs.Ready.{Ready, Possible}
 use Rattle.ticket.specs.Answered.{Stepped, SteppedAs}
-use Rattle.ticket.specs.declared.step.Step.TheVariants.{Facts, Refused}
 use Rattle.ticket.proofs.RefusedSteps.{
   formed_record,
   looked_clash,
@@ -65,43 +64,40 @@ possible_by r p u e = record { ready = r; known = known_by p u; free = sym e }
 padded_room : (l x : List ℕ) (n : ℕ) → x ≡ padded n l → length x ≡ n → length l ≤ n
 padded_room l x n e h = omega (arith, ap length e, length-append l (replicate (n - length l) 0))
 
--- Words s stored at the front of w, and zeros after them.
-pub put_back_leaves : (w s u : List ℕ) → length s ≤ length w → u ≡ s → cleared_from (u ++ drop (length s) w) (length s) ≡ padded
-    (length w) s
-put_back_leaves w s u h e =
-    let r : List ℕ = drop (length s) w in
-    let whole : length (s ++ r) ≡ length w = omega (arith, length-append s r, length-drop (length s) w) in
-    ap (λ l. cleared_from (l ++ r) (length s)) e
-    ∙ (ap (λ l. l ++ replicate (length (s ++ r) - length s) 0) (take-append_seam s r) ∙ ap (λ j. s ++ replicate (j - length s) 0)
-    whole)
-
 module _ {w : List ℕ} {n o k a b c : ℕ} (r : Ready w n o k a b c) where
   ready_formed : Formed product (record_of o k a b c)
   ready_formed = formed_record (record_of o k a b c) refl r.formed
 
-  pub ready_asked : Asked w n o k a b c
-  ready_asked = record { table = record { laid = r.table.laid; size = r.size }; formed = r.formed }
+  pub ready_counted : Counted w n
+  ready_counted = record { laid = r.table.laid; size = r.size }
+
+  pub ready_asked : Asked (take n w) o k a b c
+  ready_asked = record { facts = cut_full ready_counted; formed = r.formed }
+
+  -- A question put to the table's facts alone has the same answer.
+  pub of_facts : {A : Type 0} (ask : List Fact → A) → ask (facts_of (take n w)) ≡ ask (facts_of w)
+  of_facts ask = ap ask (cut_facts ready_counted)
 
 module _ {w : List ℕ} {n k a b c : ℕ} (r : Ready w n 1 k a b c) where
   pub way_no_property : true ≡ unknown_property (facts_of w) (ticket_of 1 k a b c)
-      → Stepped n (Refused 9) w (step product w (record_of 1 k a b c))
-  way_no_property e = stepped_refused w (record_of 1 k a b c) n 9 (property_refused w (record_of 1 k a b c) r.table
+      → Stepped n (Err UnknownProperty) w (step product w (record_of 1 k a b c))
+  way_no_property e = stepped_refused w (record_of 1 k a b c) n UnknownProperty (property_refused w (record_of 1 k a b c) r.table
       (ready_formed r) (holds (sym e)))
 
   pub way_no_class : false ≡ unknown_property (facts_of w) (ticket_of 1 k a b c)
-      → true ≡ unknown_class (facts_of w) (ticket_of 1 k a b c) → Stepped n (Refused 16) w (step product w (record_of 1 k a b c))
-  way_no_class p e = stepped_refused w (record_of 1 k a b c) n 16 (class_refused w (record_of 1 k a b c) r.table (ready_formed r)
+      → true ≡ unknown_class (facts_of w) (ticket_of 1 k a b c) → Stepped n (Err UnknownClass) w (step product w (record_of 1 k a b c))
+  way_no_class p e = stepped_refused w (record_of 1 k a b c) n UnknownClass (class_refused w (record_of 1 k a b c) r.table (ready_formed r)
       (fails (sym p)) (holds (sym e)))
 
   pub way_there : true ≡ all (has (facts_of w)) (asked (ticket_of 1 k a b c))
-      → Stepped n (Facts n) w (step product w (record_of 1 k a b c))
+      → Stepped n (Ok n) w (step product w (record_of 1 k a b c))
   way_there e = stepped_same w (record_of 1 k a b c) r.table n r.size
       (repeated_insertion product product_sound w (record_of 1 k a b c) r.table tt (ready_formed r)
       ((tests_all_has (facts_of w) (asked (ticket_of 1 k a b c))).sound (holds (sym e))))
 
   pub way_clash : Known (facts_of w) (ticket_of 1 k a b c) → true ≡ lookup_clash (facts_of w) (ticket_of 1 k a b c)
-      → Stepped n (Refused 10) w (step product w (record_of 1 k a b c))
-  way_clash u e = stepped_refused w (record_of 1 k a b c) n 10 (clash_refused w (record_of 1 k a b c) r.table (ready_formed r) tt
+      → Stepped n (Err Clashing) w (step product w (record_of 1 k a b c))
+  way_clash u e = stepped_refused w (record_of 1 k a b c) n Clashing (clash_refused w (record_of 1 k a b c) r.table (ready_formed r) tt
       u (holds (sym e)))
 
 -- The words of the graph that an insertion leaves.
@@ -109,14 +105,14 @@ abbrev pub grown_words : List ℕ → ℕ → ℕ → ℕ → ℕ → List ℕ
 grown_words w k a b c = words product (insertion product.top (facts_of w) (asked (ticket_of 1 k a b c)))
 
 module _ {w : List ℕ} {n k a b c : ℕ} (p : Possible w n k a b c) where
-  way_too_many : length w < length (grown_words w k a b c) → Stepped n (Refused 11) w (step product w (record_of 1 k a b c))
-  way_too_many h = stepped_refused w (record_of 1 k a b c) n 11 (too_many_refused w (record_of 1 k a b c) p.ready.table
+  way_too_many : length w < length (grown_words w k a b c) → Stepped n (Err NoRoom) w (step product w (record_of 1 k a b c))
+  way_too_many h = stepped_refused w (record_of 1 k a b c) n NoRoom (too_many_refused w (record_of 1 k a b c) p.ready.table
       (ready_formed p.ready) tt p.known (fails p.free) h)
 
   way_grown : (x : List ℕ) (m : ℕ) → x ≡ padded (length w) (grown_words w k a b c) → m ≡ length (grown_words w k a b c)
       → length x ≡ length w
-      → Stepped n (Facts m) x (step product w (record_of 1 k a b c))
-  way_grown x m e d l = subst (λ y. Stepped n (Facts m) y (step product w (record_of 1 k a b c))) (sym e)
+      → Stepped n (Ok m) x (step product w (record_of 1 k a b c))
+  way_grown x m e d l = subst (λ y. Stepped n (Ok m) y (step product w (record_of 1 k a b c))) (sym e)
       (stepped_inserted w (record_of 1 k a b c) p.ready.table n p.ready.size (ready_formed p.ready) m tt
       p.known (fails p.free) d (omega (arith, d, padded_room (grown_words w k a b c) x (length w) e l)))
 
@@ -127,8 +123,8 @@ left_words w k a b c = words product (deletion (facts_of w) (made k a b c))
 module _ {w : List ℕ} {n k a b c : ℕ} (r : Ready w n 2 k a b c) where
   pub way_deleted : (x : List ℕ) (m : ℕ) → x ≡ padded (length w) (left_words w k a b c) → m ≡ length (left_words w k a b c)
       → length x ≡ length w
-      → Stepped n (Facts m) x (step product w (record_of 2 k a b c))
-  way_deleted x m e d l = subst (λ y. Stepped n (Facts m) y (step product w (record_of 2 k a b c))) (sym e)
+      → Stepped n (Ok m) x (step product w (record_of 2 k a b c))
+  way_deleted x m e d l = subst (λ y. Stepped n (Ok m) y (step product w (record_of 2 k a b c))) (sym e)
       (stepped_deleted w (record_of 2 k a b c) r.table n r.size (ready_formed r) m tt d
       (omega (arith, d, padded_room (left_words w k a b c) x (length w) e l)))
 
@@ -140,7 +136,7 @@ possible_insertable {w} {n} {k} {a} {b} {c} p =
     let ticket = ticket_of 1 k a b c in
     let bytes = record_of 1 k a b c in
     record {
-      counted = (ready_asked r).table;
+      counted = (ready_counted r);
       consistent = r.table.consistent;
       insert = tt;
       kinds = known_kind ticket f.kind;
@@ -151,7 +147,7 @@ possible_insertable {w} {n} {k} {a} {b} {c} p =
     }
 
 pub possible_within : {w : List ℕ} {n k a b c : ℕ} → Possible w n k a b c → n ≤ length w
-possible_within p = (counted_search (ready_asked p.ready).table).0
+possible_within p = (counted_search (ready_counted p.ready)).0
 
 pub possible_fits : {w : List ℕ} {n k a b c : ℕ} → Possible w n k a b c → n ≤ product.most
 possible_fits p = omega (arith, possible_within p, p.ready.table.fits)
@@ -163,34 +159,34 @@ no_room false e = absurd (omega (arith, e))
 
 -- What the growth of the table w to x says.
 module _ {w : List ℕ} {n k a b c : ℕ} (p : Possible w n k a b c) (x : List ℕ) where
-  over : (g : Grown) → g ≡ TooMany → GrowMeans w (ticket_of 1 k a b c) x g → length w < length (grown_words w k a b c)
+  over : (g : Option ℕ) → g ≡ None → GrowMeans w (ticket_of 1 k a b c) x g → length w < length (grown_words w k a b c)
   over g f h = ltb→lt (length w) (length (grown_words w k a b c))
       (no_room (too_many product w (insertion product.top (facts_of w) (asked (ticket_of 1 k a b c))))
       (subst (GrowMeans w (ticket_of 1 k a b c) x) f h).0)
 
   -- There is no room; on a work table that is all.
-  pub way_lost : (g : Grown) → g ≡ TooMany → GrowMeans w (ticket_of 1 k a b c) x g
-      → SteppedAs false n (Refused 11) x (step product w (record_of 1 k a b c))
+  pub way_lost : (g : Option ℕ) → g ≡ None → GrowMeans w (ticket_of 1 k a b c) x g
+      → SteppedAs false n (Err NoRoom) x (step product w (record_of 1 k a b c))
   way_lost g f h =
       let d = way_too_many p (over g f h) in
       record {
-        numbers = subst (λ y. Stepped n (Refused 11) y (step product w (record_of 1 k a b c))) d.words d;
+        numbers = subst (λ y. Stepped n (Err NoRoom) y (step product w (record_of 1 k a b c))) d.words d;
         words = λ z. absurd (subst (λ m. T (eqb m 0)) (sym d.number) z);
       }
 
   -- There is no room, and the saved words are put back.
-  pub way_no_room : {s z : List ℕ} → s ≡ take n w → z ≡ padded (length x) s → (g : Grown) → g ≡ TooMany
+  pub way_no_room : {s z : List ℕ} → s ≡ take n w → z ≡ padded (length x) s → (g : Option ℕ) → g ≡ None
       → GrowMeans w (ticket_of 1 k a b c) x g
-      → Stepped n (Refused 11) z (step product w (record_of 1 k a b c))
+      → Stepped n (Err NoRoom) z (step product w (record_of 1 k a b c))
   way_no_room {s} saved back g f h =
       let q = subst (GrowMeans w (ticket_of 1 k a b c) x) f h in
-      let counted = (ready_asked p.ready).table in
+      let counted = (ready_counted p.ready) in
       let facts-saved : s ≡ filled w = saved ∙ counted_first counted in
       let again =
       back ∙ (ap (λ j. padded j s) q.1 ∙ (ap (padded (length w)) facts-saved ∙ sym (laid_shape product w counted.laid))) in
-      subst (λ y. Stepped n (Refused 11) y (step product w (record_of 1 k a b c))) (sym again)
+      subst (λ y. Stepped n (Err NoRoom) y (step product w (record_of 1 k a b c))) (sym again)
       (way_too_many p (over g f h))
 
-  pub way_room : (g : Grown) (m : ℕ) → g ≡ Grows m → GrowMeans w (ticket_of 1 k a b c) x g → length x ≡ length w
-      → Stepped n (Facts m) x (step product w (record_of 1 k a b c))
+  pub way_room : (g : Option ℕ) (m : ℕ) → g ≡ Some m → GrowMeans w (ticket_of 1 k a b c) x g → length x ≡ length w
+      → Stepped n (Ok m) x (step product w (record_of 1 k a b c))
   way_room g m f h l = let q = (subst (GrowMeans w (ticket_of 1 k a b c) x) f h).1 in way_grown p x m q.0 q.1 l

@@ -6,7 +6,8 @@ use Rattle.rdfs.specs.Facts.{Fact}
 use Rattle.rdfs.specs.Words.{facts}
 use Rattle.rdfs.specs.Tickets.{decoded}
 use Rattle.rdfs.specs.Refusals.{First, outcome, table_tests, ticket_tests}
-use Rattle.ticket.specs.declared.answer.Applied.{Applied}
+use Rattle.table.specs.Refused.{answer_of}
+use Rattle.ticket.specs.Answered.{Outcome, added_by, removed_by}
 
 -- The refusals in a ticket's order, each with its condition on the words of a table and a ticket's bytes.
 abbrev pub conditions : List ℕ → List ℕ → List (ℕ × Bool)
@@ -16,7 +17,7 @@ conditions words bytes =
     table_tests product words ++ ticket_tests product words K new bytes
 
 -- What the call answers on these words and bytes, and the words that it leaves.
-pub record Demand1 (before bytes after : List ℕ) (applied : Applied) : Type 0 where
-  pub first : First (conditions before bytes) applied.answer
-  pub moves_nothing : (applied.answer ≡ 0 → ⊥) → (after ≡ before) × (applied.added ≡ 0)
-      × (applied.removed ≡ 0)
+pub record Demand1 (before bytes after : List ℕ) (outcome : Outcome) : Type 0 where
+  pub first : First (conditions before bytes) (answer_of outcome)
+  pub moves_nothing : (answer_of outcome ≡ 0 → ⊥) → (after ≡ before) × (added_by outcome ≡ 0)
+      × (removed_by outcome ≡ 0)

@@ -1,5 +1,5 @@
 // The inner steps: a ticket past the refusals that need no table, on a consistent table.
-ghost use Rattle.std.specs.Prelude.{◌≡◌, false, ◌≤◌, length};
+ghost use Rattle.std.specs.Prelude.{◌≡◌, false, ◌≤◌, length, Ok};
 ghost use Rattle.rdfs.specs.Numbers.{product};
 ghost use Rattle.rdfs.specs.Words.{padded};
 ghost use Rattle.rdfs.specs.Register.{step};
@@ -9,20 +9,9 @@ ghost use Rattle.ticket.specs.Answered.{Stepped, SteppedAs};
 
 use clash::clashes;
 use deletion::delete;
-use insertion::{Grown, grow};
-use table::{
-    CLASHING, MOST, TOO_MANY, UNKNOWN_CLASS, UNKNOWN_PROPERTY, Word, clear_from, copy_words,
-};
+use insertion::grow;
+use table::{MOST, Refusal, Word};
 use ticket_form::{has_asked, is_unknown_class, is_unknown_property};
-
-// What an inner step answers.
-#[derive(Clone, Copy)]
-pub enum Step {
-    // The table has this many facts now.
-    Facts(usize),
-    // Refused with this number; the table is as it was.
-    Refused(u8),
-}
 
 // Makes a table the saved words, then zeros.
 fn put_back(table: &mut [Word], saved: &[Word])
@@ -30,8 +19,8 @@ fn put_back(table: &mut [Word], saved: &[Word])
     ensures words { table.new ≡ padded (length table.old) saved.now }
 {
     let count = saved.len();
-    copy_words(saved, &mut table[..count]);
-    clear_from(table, count);
+    table[..count].copy_from_slice(saved);
+    table[count..].fill(0);
 }
 
 // Puts the asked facts in with what follows from them. The words of the table's facts are saved first and
@@ -44,23 +33,30 @@ fn insert_saving(
     a: Word,
     b: Word,
     c: Word,
-) -> Step
+) -> Result<usize, Refusal>
     requires ticket { Possible table.old count k a b c }
     requires saved { length saved.old ≡ count }
     ensures answer { Stepped count result table.new (step product table.old
         (record_of 1 k a b c)) }
 {
-    copy_words(&table[..count], saved);
+    saved.copy_from_slice(&table[..count]);
     let grown = grow(table, count, k, a, b, c);
-    let Grown::Facts(after) = grown else {
+    let Some(after) = grown else {
         put_back(table, saved);
-        return Step::Refused(TOO_MANY);
+        return Err(Refusal::TooMany);
     };
-    Step::Facts(after)
+    Ok(after)
 }
 
 // The same, with room of its own for the saved words.
-fn insert_possible(table: &mut [Word], count: usize, k: Word, a: Word, b: Word, c: Word) -> Step
+fn insert_possible(
+    table: &mut [Word],
+    count: usize,
+    k: Word,
+    a: Word,
+    b: Word,
+    c: Word,
+) -> Result<usize, Refusal>
     requires ticket { Possible table.old count k a b c }
     ensures answer { Stepped count result table.new (step product table.old
         (record_of 1 k a b c)) }
@@ -69,17 +65,21 @@ fn insert_possible(table: &mut [Word], count: usize, k: Word, a: Word, b: Word, 
     insert_saving(table, &mut saved[..count], count, k, a, b, c)
 }
 
-// The same on a work table: nothing is saved, and where the new graph does not fit the words are anything.
-fn insert_unsaved(table: &mut [Word], count: usize, k: Word, a: Word, b: Word, c: Word) -> Step
+// The same on a work table: nothing is saved, and where the new graph does not fit the words are anything, so
+// that the two promise different words.
+fn insert_unsaved(
+    table: &mut [Word],
+    count: usize,
+    k: Word,
+    a: Word,
+    b: Word,
+    c: Word,
+) -> Result<usize, Refusal>
     requires ticket { Possible table.old count k a b c }
     ensures answer { SteppedAs false count result table.new (step product table.old
         (record_of 1 k a b c)) }
 {
-    let grown = grow(table, count, k, a, b, c);
-    let Grown::Facts(facts) = grown else {
-        return Step::Refused(TOO_MANY);
-    };
-    Step::Facts(facts)
+    grow(table, count, k, a, b, c).ok_or(Refusal::TooMany)
 }
 
 // An insertion. One that is refused with 9, 16 or 10, or whose asked facts are all there, costs a few lookups
@@ -92,39 +92,36 @@ pub fn run_insertion(
     a: Word,
     b: Word,
     c: Word,
-) -> Step
+) -> Result<usize, Refusal>
     requires ticket { Ready table.old count 1 k a b c }
     ensures answer { SteppedAs keep count result table.new (step product table.old
         (record_of 1 k a b c)) }
 {
-    let no_property = is_unknown_property(table, count, k, a, b, c);
-    if no_property {
-        return Step::Refused(UNKNOWN_PROPERTY);
+    let facts = &table[..count];
+    if is_unknown_property(facts, k, a, b, c) {
+        return Err(Refusal::UnknownProperty);
     }
-    let there = has_asked(table, count, k, a, b, c);
-    if there {
-        return Step::Facts(count);
+    if has_asked(facts, k, a, b, c) {
+        return Ok(count);
     }
-    let no_class = is_unknown_class(table, count, k, a, b, c);
-    if no_class {
-        return Step::Refused(UNKNOWN_CLASS);
+    if is_unknown_class(facts, k, a, b, c) {
+        return Err(Refusal::UnknownClass);
     }
-    let clash = clashes(table, count, k, a, b, c);
-    if clash {
-        return Step::Refused(CLASHING);
+    if clashes(facts, k, a, b, c) {
+        return Err(Refusal::Clashing);
     }
     if keep {
-        return insert_possible(table, count, k, a, b, c);
+        insert_possible(table, count, k, a, b, c)
+    } else {
+        insert_unsaved(table, count, k, a, b, c)
     }
-    insert_unsaved(table, count, k, a, b, c)
 }
 
-// A deletion. One whose fact is gone costs a lookup and changes nothing.
-pub fn run_deletion(table: &mut [Word], count: usize, k: Word, a: Word, b: Word, c: Word) -> Step
+// A deletion; answers how many facts are left. One whose fact is gone costs a lookup and changes nothing.
+pub fn run_deletion(table: &mut [Word], count: usize, k: Word, a: Word, b: Word, c: Word) -> usize
     requires ticket { Ready table.old count 2 k a b c }
-    ensures answer { Stepped count result table.new (step product table.old
+    ensures answer { Stepped count (Ok result) table.new (step product table.old
         (record_of 2 k a b c)) }
 {
-    let left = delete(table, count, k, a, b, c);
-    Step::Facts(left)
+    delete(table, count, k, a, b, c)
 }

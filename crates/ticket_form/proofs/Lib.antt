@@ -1,4 +1,4 @@
--- FormTests: tests of a ticket's bytes, for form, ids and has_asked, and the crates above. Formed: what is known of a ticket past
--- refusal 8, for state and the crate above.
-pub mod FormTests
+-- Formed: what is known of a ticket past refusal 8, for state and the crates above. Numbered:
+-- refusals by their numbers, for check_form and the crates above.
 pub mod Formed
+pub mod Numbered

@@ -3,7 +3,7 @@ use Rattle.std.specs.Prelude.{ℕ, ◌≡◌, List, [], ◌∷◌}
 use Rattle.rdfs.specs.Numbers.{product}
 use Rattle.rdfs.specs.Tickets as defs
 use Rattle.rdfs.specs.Refusals.{first_true, form_tests}
-use Rattle.table.specs.Counted.{Counted}
+use Rattle.table.specs.Counted.{Full}
 use Rattle.ticket_form.specs.declared.fields.Ticket.{Ticket}
 
 -- The ticket of the definitions.
@@ -28,7 +28,7 @@ bytes_of ticket = record_of ticket.operation ticket.kind ticket.a ticket.b ticke
 abbrev pub form_refusal : defs.Ticket → ℕ
 form_refusal ticket = first_true (form_tests product ticket)
 
--- A table with this many facts, and a ticket past the first eight refusals.
-pub record Asked (words : List ℕ) (count operation k a b c : ℕ) : Type 0 where
-  pub table : Counted words count
+-- The facts of a table, and a ticket past the first eight refusals.
+pub record Asked (words : List ℕ) (operation k a b c : ℕ) : Type 0 where
+  pub facts : Full words
   pub formed : form_refusal (defs.ticket_of operation k a b c) ≡ 0

@@ -1,94 +1,85 @@
-// Refusals 5, 6 and 8, and the first of 5 to 8.
+// Refusals 5, 6 and 8, and the first of 5 to 7 or to 8.
 ghost use Rattle.std.specs.Prelude.{◌≡◌, eqb};
+ghost use Rattle.rdfs.specs.Numbers.{product};
+ghost use Rattle.rdfs.specs.Refusals.{first_true, field_tests};
 ghost use Rattle.rdfs.specs.Tickets.{bad_operation, bad_kind, guarded};
+ghost use Rattle.table.specs.Refused.{answer_of};
 ghost use Rattle.ticket_form.specs.TicketForm.{sense, form_refusal};
 
 use crate::fields::{DELETE, INSERT, Ticket, wide};
 use crate::ids::has_bad_ids;
 use table::{
-    BAD_IDS, BAD_KIND, BAD_OPERATION, CLASS, EXCLUSIVE, GUARDED, INDIVIDUAL, LITERAL, MEMBER,
-    PROPERTY, RESOURCE, SUBCLASS, SUBPROPERTY, VALUE,
+    CLASS, EXCLUSIVE, INDIVIDUAL, LITERAL, MEMBER, PROPERTY, RESOURCE, Refusal, SUBCLASS,
+    SUBPROPERTY, VALUE,
 };
 
 // Refusal 5.
 fn is_bad_operation(ticket: Ticket) -> bool
     ensures answer { result ≡ bad_operation (sense ticket) }
 {
-    if ticket.operation == INSERT {
-        return false;
-    }
-    if ticket.operation == DELETE {
-        return false;
-    }
-    true
+    !matches!(ticket.operation, INSERT | DELETE)
 }
 
 // Refusal 6: Dom and Rng are no tickets.
 fn is_bad_kind(ticket: Ticket) -> bool
     ensures answer { result ≡ bad_kind (sense ticket) }
 {
-    let k = wide(ticket.kind);
-    match k {
-        CLASS => false,
-        PROPERTY => false,
-        INDIVIDUAL => false,
-        LITERAL => false,
-        SUBCLASS => false,
-        SUBPROPERTY => false,
-        MEMBER => false,
-        VALUE => false,
-        EXCLUSIVE => false,
-        _ => true,
-    }
+    !matches!(
+        wide(ticket.kind),
+        CLASS
+            | PROPERTY
+            | INDIVIDUAL
+            | LITERAL
+            | SUBCLASS
+            | SUBPROPERTY
+            | MEMBER
+            | VALUE
+            | EXCLUSIVE
+    )
 }
 
 // The id x is rdfs:Resource.
 fn is_resource(x: u8) -> bool
     ensures answer { result ≡ eqb x 0 }
 {
-    let id = wide(x);
-    if id == RESOURCE {
-        return true;
-    }
-    false
+    wide(x) == RESOURCE
 }
 
 // Refusal 8: Cl(0), which every table keeps, and the links that rules 13 and 14 ask for.
 fn is_guarded(ticket: Ticket) -> bool
     ensures answer { result ≡ guarded (sense ticket) }
 {
-    if ticket.operation == DELETE {
-        let k = wide(ticket.kind);
-        match k {
+    ticket.operation == DELETE
+        && match wide(ticket.kind) {
             CLASS => is_resource(ticket.a),
-            SUBCLASS => is_resource(ticket.b),
-            MEMBER => is_resource(ticket.b),
+            SUBCLASS | MEMBER => is_resource(ticket.b),
             _ => false,
         }
-    } else {
-        false
-    }
 }
 
-// The first of refusals 5 to 8 whose condition holds, or 0.
-pub fn form_refusal(ticket: Ticket) -> u8
-    ensures answer { result ≡ form_refusal (sense ticket) }
+// The first of refusals 5 to 7 whose condition holds, if one does.
+pub fn check_fields(ticket: Ticket) -> Result<(), Refusal>
+    ensures answer { answer_of result ≡ first_true (field_tests product (sense ticket)) }
 {
-    let operation = is_bad_operation(ticket);
-    if operation {
-        return BAD_OPERATION;
+    if is_bad_operation(ticket) {
+        return Err(Refusal::BadOperation);
     }
-    let kind = is_bad_kind(ticket);
-    if kind {
-        return BAD_KIND;
+    if is_bad_kind(ticket) {
+        return Err(Refusal::BadKind);
     }
-    let ids = has_bad_ids(ticket);
-    if ids {
-        return BAD_IDS;
+    if has_bad_ids(ticket) {
+        return Err(Refusal::BadIds);
     }
-    let guarded = is_guarded(ticket);
-    if guarded {
-        return GUARDED;
+    Ok(())
+}
+
+// The first of refusals 5 to 8 whose condition holds, if one does.
+pub fn check_form(ticket: Ticket) -> Result<(), Refusal>
+    ensures answer { answer_of result ≡ form_refusal (sense ticket) }
+{
+    check_fields(ticket)?;
+    if is_guarded(ticket) {
+        return Err(Refusal::Guarded);
     }
-    0
+    Ok(())
 }

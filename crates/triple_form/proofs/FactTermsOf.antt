@@ -3,6 +3,7 @@ use Prim.Native.Nat.{ℕ}
 use mathlib.Core.Path.{◌≡◌, refl, sym, ap, ◌∙◌}
 use mathlib.Core.Bool.{Bool, true, not, ◌||◌}
 use lib.Dec.{T, eqb}
+use Rattle.std.proofs.Common.{Some}
 use borrow.Author.Tests.{ne_eqb}
 use Rattle.rdfs.specs.Numbers.{product}
 use Rattle.rdfs.specs.Facts.{Fact, cl, pr, ind, lit, excl, csub, psub, dom, rng, ci, pi, kind, first, second, made}
@@ -13,7 +14,7 @@ use Rattle.triple_form.specs.Lines.{has_line, subject, predicate, object}
 use Rattle.terms.specs.declared.term.Term.TheVariants.{Id, RdfType}
 
 -- With a line, the subject is the first id, the predicate of the other kinds rdf:type, the object of the others the second id.
-subject_first : (f : Fact) → T (has_line f) → subject f ≡ Id (first f)
+pub subject_first : (f : Fact) → T (has_line f) → subject f ≡ Some (Id (first f))
 subject_first (cl a) h = refl
 subject_first (pr a) h = refl
 subject_first (ind a) h = absurd h
@@ -27,7 +28,7 @@ subject_first (pi a b c) h = refl
 subject_first (excl a) h = refl
 
 predicate_typed : (f : Fact) → T (has_line f) → (kind f ≡ 5 → ⊥) → (kind f ≡ 6 → ⊥) → (kind f ≡ 7 → ⊥) → (kind f ≡ 8 → ⊥)
-    → (kind f ≡ 10 → ⊥) → predicate f ≡ RdfType
+    → (kind f ≡ 10 → ⊥) → predicate f ≡ Some RdfType
 predicate_typed (cl a) h n5 n6 n7 n8 n10 = refl
 predicate_typed (pr a) h n5 n6 n7 n8 n10 = refl
 predicate_typed (ind a) h n5 n6 n7 n8 n10 = absurd h
@@ -41,7 +42,7 @@ predicate_typed (pi a b c) h n5 n6 n7 n8 n10 = absurd (n10 refl)
 predicate_typed (excl a) h n5 n6 n7 n8 n10 = refl
 
 object_second : (literal : Bool) (f : Fact) → T (has_line f) → (kind f ≡ 1 → ⊥) → (kind f ≡ 2 → ⊥) → (kind f ≡ 10 → ⊥)
-    → (kind f ≡ 11 → ⊥) → object literal f ≡ Id (second f)
+    → (kind f ≡ 11 → ⊥) → object literal f ≡ Some (Id (second f))
 object_second literal (cl a) h n1 n2 n10 n11 = absurd (n1 refl)
 object_second literal (pr a) h n1 n2 n10 n11 = absurd (n2 refl)
 object_second literal (ind a) h n1 n2 n10 n11 = absurd h
@@ -72,14 +73,14 @@ module _ (w : ℕ) (h : T (is_fact product w)) where
   not_kind n e = n (sym (fact_kind_lem w h) ∙ e)
 
   module _ (line : T (has_line (fact product.base w))) where
-    pub word_subject : subject (fact product.base w) ≡ Id (first_of w)
-    word_subject = subject_first its line ∙ ap Id (fact_first w h)
+    pub word_subject : subject (fact product.base w) ≡ Some (Id (first_of w))
+    word_subject = subject_first its line ∙ ap (λ n. Some (Id n)) (fact_first w h)
 
     pub word_typed : (kind_of w ≡ 5 → ⊥) → (kind_of w ≡ 6 → ⊥) → (kind_of w ≡ 7 → ⊥) → (kind_of w ≡ 8 → ⊥) → (kind_of w ≡ 10 → ⊥)
-        → predicate (fact product.base w) ≡ RdfType
+        → predicate (fact product.base w) ≡ Some RdfType
     word_typed n5 n6 n7 n8 n10 = predicate_typed its line (not_kind n5) (not_kind n6) (not_kind n7) (not_kind n8) (not_kind n10)
 
     pub word_object : (literal : Bool) → (kind_of w ≡ 1 → ⊥) → (kind_of w ≡ 2 → ⊥) → (kind_of w ≡ 10 → ⊥)
-        → (kind_of w ≡ 11 → ⊥) → object literal (fact product.base w) ≡ Id (second_of w)
+        → (kind_of w ≡ 11 → ⊥) → object literal (fact product.base w) ≡ Some (Id (second_of w))
     word_object literal n1 n2 n10 n11 =
-        object_second literal its line (not_kind n1) (not_kind n2) (not_kind n10) (not_kind n11) ∙ ap Id (fact_second w h)
+        object_second literal its line (not_kind n1) (not_kind n2) (not_kind n10) (not_kind n11) ∙ ap (λ n. Some (Id n)) (fact_second w h)

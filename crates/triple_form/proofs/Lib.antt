@@ -3,7 +3,7 @@
 -- crates above. LineReading: for read_line.
 mod LinePut
 pub mod LineLength
-mod FactTermsOf
+pub mod FactTermsOf
 pub mod TermParts
 pub mod FactReading
 pub mod LineLaws

@@ -5,23 +5,24 @@ use mathlib.Core.Bool.{Bool, true, false, not, ◌&&◌, ◌||◌}
 use mathlib.Core.List.{List, ◌++◌, append_assoc}
 use lib.Dec.{T, eqb, leb, leb→le}
 use lib.ListN.{drop}
+use Rattle.std.proofs.Common.{Option}
 use Rattle.rdfs.specs.Numbers.{product}
 use Rattle.rdfs.specs.Facts.{Fact, cl, pr, ind, lit, excl, csub, psub, dom, rng, ci, pi, kind, second}
 use Rattle.rdfs.specs.Words.{allowed}
 use Rattle.rdfs.proofs.Lists.Tests.{and_both}
 use Rattle.rdfs.proofs.Words.Allowed.{Ids, allowed_ids}
-use Rattle.terms.specs.Terms.{bytes, spelt, Proper}
+use Rattle.terms.specs.Terms.{bytes, spelling, ProperSome}
 use Rattle.terms.specs.Terms.{ended}
 use Rattle.triple_form.specs.Lines.{Line, has_line, subject, predicate, object, line_of, in_profile}
 use Rattle.terms.specs.declared.term.Term.{Term}
-use Rattle.terms.proofs.Spelling.{spelt_one}
+use Rattle.terms.proofs.Spelling.{spelling_one}
 use Rattle.triple_form.proofs.TermParts.{line_from, line_again}
 
 -- The three terms of a line inside the profile are proper.
 abbrev pub ProperLine : Line → Type 0
 ProperLine x =
-    Proper product.top (subject x.fact) × Proper product.top (predicate x.fact)
-    × Proper product.top (object x.literal x.fact)
+    ProperSome product.top (subject x.fact) × ProperSome product.top (predicate x.fact)
+    × ProperSome product.top (object x.literal x.fact)
 
 abbrev top : ℕ
 top = product.top
@@ -62,16 +63,16 @@ terms_tell x y h k p1 p2 p3 =
     ∙ (ap (λ o. line_from (subject y.fact) (predicate y.fact) o) p3 ∙ line_again y k)))
 
 -- A line and what follows it, term by term.
-pub line_parts : (x : Line) (r : List ℕ) → line_of x ++ r ≡ ended (spelt (subject x.fact))
-    ++ (ended (spelt (predicate x.fact)) ++ (ended (spelt (object x.literal x.fact)) ++ (bytes ".\n" ++ r)))
+pub line_parts : (x : Line) (r : List ℕ) → line_of x ++ r ≡ ended (spelling (subject x.fact))
+    ++ (ended (spelling (predicate x.fact)) ++ (ended (spelling (object x.literal x.fact)) ++ (bytes ".\n" ++ r)))
 unfolding line_of
 line_parts x r = simp append_assoc
 
-ended_one : (t u : Term) (r s : List ℕ) → Proper product.top t → Proper product.top u
-    → ended (spelt t) ++ r ≡ ended (spelt u) ++ s → (t ≡ u) × (r ≡ s)
+ended_one : (t u : Option Term) (r s : List ℕ) → ProperSome product.top t → ProperSome product.top u
+    → ended (spelling t) ++ r ≡ ended (spelling u) ++ s → (t ≡ u) × (r ≡ s)
 ended_one t u r s p q e =
-    let one = spelt_one t u (bytes " " ++ r) (bytes " " ++ s) p q
-    (sym (append_assoc (spelt t) (bytes " ") r) ∙ (e ∙ append_assoc (spelt u) (bytes " ") s)) in
+    let one = spelling_one t u (bytes " " ++ r) (bytes " " ++ s) p q
+    (sym (append_assoc (spelling t) (bytes " ") r) ∙ (e ∙ append_assoc (spelling u) (bytes " ") s)) in
     (one.0, ap (drop 1) one.1)
 
 pub line_one : (x y : Line) (r s : List ℕ) → T (in_profile product.top x) → T (in_profile product.top y)

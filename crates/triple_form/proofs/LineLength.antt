@@ -14,7 +14,7 @@ use Rattle.rdfs.specs.Words.{is_fact, allowed}
 use Rattle.rdfs.proofs.Lists.Tests.{and_both}
 use Rattle.rdfs.proofs.Words.Allowed.{Fields, fields}
 use Rattle.rdfs.proofs.Words.LaidOut.{fact_allowed}
-use Rattle.terms.specs.Terms.{bytes, id_term, spelt}
+use Rattle.terms.specs.Terms.{bytes, id_term, spelling}
 use Rattle.terms.specs.Terms.{ended}
 use Rattle.triple_form.specs.Lines.{Line, has_line, subject, predicate, object, line_of, in_profile}
 use Rattle.triple_form.specs.LineRead.{word_line}
@@ -24,13 +24,13 @@ use Rattle.terms.proofs.IdSpelt.{id_resource, id_mark, number_length, literal_le
 ended_length : (term : List ℕ) → length (ended term) ≡ length term + 1
 ended_length term = length-append term (bytes " ")
 
-pub line_length : (line : Line) → length (line_of line) ≡ length (spelt (subject line.fact))
-    + length (spelt (predicate line.fact)) + length (spelt (object line.literal line.fact)) + 5
+pub line_length : (line : Line) → length (line_of line) ≡ length (spelling (subject line.fact))
+    + length (spelling (predicate line.fact)) + length (spelling (object line.literal line.fact)) + 5
 unfolding line_of
 line_length line =
-    let s : List ℕ = spelt (subject line.fact) in
-    let p : List ℕ = spelt (predicate line.fact) in
-    let o : List ℕ = spelt (object line.literal line.fact) in
+    let s : List ℕ = spelling (subject line.fact) in
+    let p : List ℕ = spelling (predicate line.fact) in
+    let o : List ℕ = spelling (object line.literal line.fact) in
     let last : List ℕ = ended o ++ bytes ".\n" in
     omega (
       arith,
@@ -54,12 +54,12 @@ id_short n h = by (eqb n 0) refl (eqb n 1) refl
     by false d true e = omega (arith, ap length (id_mark (eqb-true n 1 e)))
     by false d false e = omega (arith, number_length n (eqb-false n 0 d) (eqb-false n 1 e), count_three n (omega arith))
 
-value_short : (literal : Bool) (n : ℕ) (a c : ℕ) → n ≤ product.top → length (spelt (object literal (pi a n c))) ≤ 47
+value_short : (literal : Bool) (n : ℕ) (a c : ℕ) → n ≤ product.top → length (spelling (object literal (pi a n c))) ≤ 47
 value_short true n a c h = omega (arith, literal_length n, count_three n (omega arith))
 value_short false n a c h = id_short n h
 
 terms_short : (literal : Bool) (f : Fact) → Fields product.top f
-    → length (spelt (subject f)) + length (spelt (predicate f)) + length (spelt (object literal f)) ≤ 149
+    → length (spelling (subject f)) + length (spelling (predicate f)) + length (spelling (object literal f)) ≤ 149
 terms_short literal (cl a) h = omega (arith, id_short a h.one)
 terms_short literal (pr a) h = omega (arith, id_short a h.one)
 terms_short literal (ind a) h = omega arith

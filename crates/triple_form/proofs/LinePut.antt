@@ -4,10 +4,11 @@ use mathlib.Core.Path.{◌≡◌, sym, ap, ◌∙◌}
 use mathlib.Core.Bool.{Bool}
 use mathlib.Core.List.{List, ◌++◌}
 use lib.Dec.{T}
+use Rattle.std.proofs.Common.{Option, Some}
 use Rattle.rdfs.specs.Numbers.{product}
 use Rattle.rdfs.specs.Words.{fact, is_fact}
 use Rattle.table.specs.Parts.{first_of}
-use Rattle.terms.specs.Terms.{bytes, spelt}
+use Rattle.terms.specs.Terms.{bytes, spelt, spelling}
 use Rattle.terms.specs.Terms.{ended}
 use Rattle.triple_form.specs.Lines.{has_line, subject, predicate, object, line_of}
 use Rattle.triple_form.specs.LineRead.{word_line}
@@ -18,43 +19,43 @@ use Rattle.terms.proofs.Putting.{room_same, room_first, room_behind, puts_same, 
 use Rattle.triple_form.proofs.FactTermsOf.{word_subject}
 
 -- A term in front of other bytes.
-module _ (t u : Term) (e : t ≡ u) (rest : List ℕ) where
-  same : ended (spelt t) ≡ ended (spelt u)
-  same = ap (λ v. ended (spelt v)) e
+module _ (t : Term) (u : Option Term) (e : Some t ≡ u) (rest : List ℕ) where
+  same : ended (spelt t) ≡ ended (spelling u)
+  same = ap (λ v. ended (spelling v)) e
 
-  term_room : (out : List ℕ) (at : ℕ) → Room out at (ended (spelt u) ++ rest) → Room out at (ended (spelt t))
-  term_room out at room = room_same out at (sym same) (room_first out at (ended (spelt u)) rest room)
+  term_room : (out : List ℕ) (at : ℕ) → Room out at (ended (spelling u) ++ rest) → Room out at (ended (spelt t))
+  term_room out at room = room_same out at (sym same) (room_first out at (ended (spelling u)) rest room)
 
-  module _ {out mid : List ℕ} {at next : ℕ} (room : Room out at (ended (spelt u) ++ rest))
+  module _ {out mid : List ℕ} {at next : ℕ} (room : Room out at (ended (spelling u) ++ rest))
       (p : Puts out at (ended (spelt t)) mid next) where
     term_behind : Room mid next rest
-    term_behind = room_behind (ended (spelt u)) rest room (puts_same same p)
+    term_behind = room_behind (ended (spelling u)) rest room (puts_same same p)
 
-    term_puts : {after : List ℕ} {last : ℕ} → Puts mid next rest after last → Puts out at (ended (spelt u) ++ rest) after last
-    term_puts q = puts_behind (ended (spelt u)) rest room (puts_same same p) q
+    term_puts : {after : List ℕ} {last : ℕ} → Puts mid next rest after last → Puts out at (ended (spelling u) ++ rest) after last
+    term_puts q = puts_behind (ended (spelling u)) rest room (puts_same same p) q
 
 -- What is behind the subject, and behind the predicate.
 abbrev behind_predicate : ℕ → Bool → List ℕ
-behind_predicate w literal = ended (spelt (object literal (fact product.base w))) ++ bytes ".\n"
+behind_predicate w literal = ended (spelling (object literal (fact product.base w))) ++ bytes ".\n"
 
 abbrev behind_subject : ℕ → Bool → List ℕ
-behind_subject w literal = ended (spelt (predicate (fact product.base w))) ++ behind_predicate w literal
+behind_subject w literal = ended (spelling (predicate (fact product.base w))) ++ behind_predicate w literal
 
 module _ (w : ℕ) (literal : Bool) (h : T (is_fact product w)) (line : T (has_line (fact product.base w))) (out : List ℕ) (at : ℕ)
     (room : Room out at (line_of (word_line w literal))) where
-  all : Room out at (ended (spelt (subject (fact product.base w))) ++ behind_subject w literal)
+  all : Room out at (ended (spelling (subject (fact product.base w))) ++ behind_subject w literal)
   unfolding line_of
   all = room
 
   module _ (a : ℕ) (e : a ≡ first_of w) where
-    is_subject : Id a ≡ subject (fact product.base w)
-    is_subject = ap Id e ∙ sym (word_subject w h line)
+    is_subject : Some (Id a) ≡ subject (fact product.base w)
+    is_subject = ap (λ n. Some (Id n)) e ∙ sym (word_subject w h line)
 
     pub subject_room : Room out at (ended (spelt (Id a)))
     subject_room = term_room (Id a) (subject (fact product.base w)) is_subject (behind_subject w literal) out at all
 
     module _ {mid : List ℕ} {next : ℕ} (p : Puts out at (ended (spelt (Id a))) mid next) (t : Term)
-        (d : t ≡ predicate (fact product.base w)) where
+        (d : Some t ≡ predicate (fact product.base w)) where
       left : Room mid next (behind_subject w literal)
       left = term_behind (Id a) (subject (fact product.base w)) is_subject (behind_subject w literal) all p
 
@@ -62,7 +63,7 @@ module _ (w : ℕ) (literal : Bool) (h : T (is_fact product w)) (line : T (has_l
       predicate_room = term_room t (predicate (fact product.base w)) d (behind_predicate w literal) mid next left
 
       module _ {mid₂ : List ℕ} {next₂ : ℕ} (q : Puts mid next (ended (spelt t)) mid₂ next₂) (u : Term)
-          (g : u ≡ object literal (fact product.base w)) where
+          (g : Some u ≡ object literal (fact product.base w)) where
         last_left : Room mid₂ next₂ (behind_predicate w literal)
         last_left = term_behind t (predicate (fact product.base w)) d (behind_predicate w literal) left q
 

@@ -1,10 +1,12 @@
 -- The kind and the ids that three terms tell, and the line that has them. Assumes nothing.
-use Prim.Native.Nat.{ℕ, ◌≤◌, ◌<◌}
-use mathlib.Core.Path.{◌≡◌, refl}
+use Prim.Native.Nat.{ℕ, ◌<◌}
+use mathlib.Core.Path.{◌≡◌, refl, subst}
 use mathlib.Core.Bool.{Bool, true, false, ◌&&◌}
 use native.Mathlib.Omega.{arith}
-use native.Mathlib.Decide.{dec_lt}
 use lib.Dec.{T}
+use Rattle.std.proofs.Common.{Option, None, Some}
+use Rattle.std.specs.Option.{unwrap_or}
+use Rattle.std.proofs.lemmas.Option.{none-some, same_Some}
 use Rattle.rdfs.specs.Numbers.{product}
 use Rattle.rdfs.specs.Facts.{Fact, cl, pr, ind, lit, excl, csub, psub, dom, rng, ci, pi, made}
 use Rattle.rdfs.specs.Words.{word, allowed}
@@ -25,18 +27,27 @@ use Rattle.terms.specs.declared.term.Term.TheVariants.{
   Domain,
   Range,
   Exclusive,
-  Other,
 }
 
--- The kind that three terms tell, 0 for none; the line and the word with it.
-abbrev pub kind_from : Term → Term → Term → ℕ
-kind_from s p o = linked_kind (kind_by p o) s
+-- What terms tell, where there may be none: the kind, an id and whether it is a literal; the line and the word with these.
+abbrev pub kind_told : Option Term → Option Term → ℕ
+kind_told None o = 0
+kind_told (Some p) None = 0
+kind_told (Some p) (Some o) = unwrap_or (kind_by p o) 0
 
-abbrev pub line_from : Term → Term → Term → Line
-line_from s p o = record { fact = made (kind_from s p o) (id_in s) (id_in o) (id_in p); literal = is_literal o }
+abbrev pub id_told : Option Term → ℕ
+id_told None = 0
+id_told (Some t) = unwrap_or (id_in t) 0
 
-abbrev pub word_from : Term → Term → Term → ℕ
-word_from s p o = word_of (kind_from s p o) (id_in s) (id_in o) (id_in p)
+abbrev pub literal_told : Option Term → Bool
+literal_told None = false
+literal_told (Some t) = is_literal t
+
+abbrev pub line_from : Option Term → Option Term → Option Term → Line
+line_from s p o = record { fact = made (kind_told p o) (id_told s) (id_told o) (id_told p); literal = literal_told o }
+
+abbrev pub word_from : Option Term → Option Term → Option Term → ℕ
+word_from s p o = word_of (kind_told p o) (id_told s) (id_told o) (id_told p)
 
 -- A line inside the profile is the one that its terms tell, and so is its word.
 no_literal : (b : Bool) → T (b && false) → ⊥
@@ -74,87 +85,79 @@ module _ (x : Line) (h : T (in_profile product.top x)) where
       ≡ word product.base x.fact
   word_again = (again x.fact x.literal h).1
 
--- What holds of the terms that tell a kind.
-pub linked : (P : Term → Type 0) (k : ℕ) (t : Term) → ((n : ℕ) → P (Id n)) → 1 ≤ linked_kind k t → P t
-linked P k (Id n) f h = f n
-linked P k (Literal n) f h = absurd (omega arith)
-linked P k RdfType f h = absurd (omega arith)
-linked P k Property f h = absurd (omega arith)
-linked P k Class f h = absurd (omega arith)
-linked P k SubClassOf f h = absurd (omega arith)
-linked P k SubPropertyOf f h = absurd (omega arith)
-linked P k Domain f h = absurd (omega arith)
-linked P k Range f h = absurd (omega arith)
-linked P k Exclusive f h = absurd (omega arith)
-linked P k Other f h = absurd (omega arith)
-
 -- The predicates and objects that tell a kind.
-pub data Pair : Term → Term → Type 0 where
-  a_class : Pair RdfType Class
-  a_property : Pair RdfType Property
-  a_subclass : (b : ℕ) → Pair SubClassOf (Id b)
-  a_subproperty : (b : ℕ) → Pair SubPropertyOf (Id b)
-  a_domain : (b : ℕ) → Pair Domain (Id b)
-  a_range : (b : ℕ) → Pair Range (Id b)
-  a_member : (b : ℕ) → Pair RdfType (Id b)
-  a_value : (b c : ℕ) → Pair (Id c) (Id b)
-  a_literal : (b c : ℕ) → Pair (Id c) (Literal b)
-  an_exclusive : Pair RdfType Exclusive
+pub data Pair : Term → Term → ℕ → Type 0 where
+  a_class : Pair RdfType Class 1
+  a_property : Pair RdfType Property 2
+  a_subclass : (b : ℕ) → Pair SubClassOf (Id b) 5
+  a_subproperty : (b : ℕ) → Pair SubPropertyOf (Id b) 6
+  a_domain : (b : ℕ) → Pair Domain (Id b) 7
+  a_range : (b : ℕ) → Pair Range (Id b) 8
+  a_member : (b : ℕ) → Pair RdfType (Id b) 9
+  a_value : (b c : ℕ) → Pair (Id c) (Id b) 10
+  a_literal : (b c : ℕ) → Pair (Id c) (Literal b) 10
+  an_exclusive : Pair RdfType Exclusive 11
 
-typed : (o : Term) → 1 ≤ typed_kind o → Pair RdfType o
-typed (Id n) h = a_member n
-typed (Literal n) h = absurd (omega arith)
-typed RdfType h = absurd (omega arith)
-typed Property h = a_property
-typed Class h = a_class
-typed SubClassOf h = absurd (omega arith)
-typed SubPropertyOf h = absurd (omega arith)
-typed Domain h = absurd (omega arith)
-typed Range h = absurd (omega arith)
-typed Exclusive h = an_exclusive
-typed Other h = absurd (omega arith)
+at_kind : (p o : Term) (j : ℕ) {k : ℕ} → Pair p o j → Some j ≡ Some k → Pair p o k
+at_kind p o j {k} h e = subst (Pair p o) (same_Some j k e) h
 
-valued : (c : ℕ) (o : Term) → 1 ≤ value_kind o → Pair (Id c) o
-valued c (Id n) h = a_value n c
-valued c (Literal n) h = a_literal n c
-valued c RdfType h = absurd (omega arith)
-valued c Property h = absurd (omega arith)
-valued c Class h = absurd (omega arith)
-valued c SubClassOf h = absurd (omega arith)
-valued c SubPropertyOf h = absurd (omega arith)
-valued c Domain h = absurd (omega arith)
-valued c Range h = absurd (omega arith)
-valued c Exclusive h = absurd (omega arith)
-valued c Other h = absurd (omega arith)
+typed : (o : Term) {k : ℕ} → typed_kind o ≡ Some k → Pair RdfType o k
+typed (Id n) e = at_kind RdfType (Id n) 9 (a_member n) e
+typed (Literal n) {k} e = absurd (none-some k e)
+typed RdfType {k} e = absurd (none-some k e)
+typed Property e = at_kind RdfType Property 2 a_property e
+typed Class e = at_kind RdfType Class 1 a_class e
+typed SubClassOf {k} e = absurd (none-some k e)
+typed SubPropertyOf {k} e = absurd (none-some k e)
+typed Domain {k} e = absurd (none-some k e)
+typed Range {k} e = absurd (none-some k e)
+typed Exclusive e = at_kind RdfType Exclusive 11 an_exclusive e
 
-pub pair : (p o : Term) → 1 ≤ kind_by p o → Pair p o
-pair (Id n) o h = valued n o h
-pair (Literal n) o h = absurd (omega arith)
-pair RdfType o h = typed o h
-pair Property o h = absurd (omega arith)
-pair Class o h = absurd (omega arith)
-pair SubClassOf o h = linked (Pair SubClassOf) 5 o a_subclass h
-pair SubPropertyOf o h = linked (Pair SubPropertyOf) 6 o a_subproperty h
-pair Domain o h = linked (Pair Domain) 7 o a_domain h
-pair Range o h = linked (Pair Range) 8 o a_range h
-pair Exclusive o h = absurd (omega arith)
-pair Other o h = absurd (omega arith)
+valued : (c : ℕ) (o : Term) {k : ℕ} → value_kind o ≡ Some k → Pair (Id c) o k
+valued c (Id n) e = at_kind (Id c) (Id n) 10 (a_value n c) e
+valued c (Literal n) e = at_kind (Id c) (Literal n) 10 (a_literal n c) e
+valued c RdfType {k} e = absurd (none-some k e)
+valued c Property {k} e = absurd (none-some k e)
+valued c Class {k} e = absurd (none-some k e)
+valued c SubClassOf {k} e = absurd (none-some k e)
+valued c SubPropertyOf {k} e = absurd (none-some k e)
+valued c Domain {k} e = absurd (none-some k e)
+valued c Range {k} e = absurd (none-some k e)
+valued c Exclusive {k} e = absurd (none-some k e)
+
+linked : (p : Term) (j : ℕ) (o : Term) {k : ℕ} → ((b : ℕ) → Pair p (Id b) j) → linked_kind j o ≡ Some k → Pair p o k
+linked p j (Id n) f e = at_kind p (Id n) j (f n) e
+linked p j (Literal n) {k} f e = absurd (none-some k e)
+linked p j RdfType {k} f e = absurd (none-some k e)
+linked p j Property {k} f e = absurd (none-some k e)
+linked p j Class {k} f e = absurd (none-some k e)
+linked p j SubClassOf {k} f e = absurd (none-some k e)
+linked p j SubPropertyOf {k} f e = absurd (none-some k e)
+linked p j Domain {k} f e = absurd (none-some k e)
+linked p j Range {k} f e = absurd (none-some k e)
+linked p j Exclusive {k} f e = absurd (none-some k e)
+
+pub pair : (p o : Term) {k : ℕ} → kind_by p o ≡ Some k → Pair p o k
+pair (Id n) o e = valued n o e
+pair (Literal n) o {k} e = absurd (none-some k e)
+pair RdfType o e = typed o e
+pair Property o {k} e = absurd (none-some k e)
+pair Class o {k} e = absurd (none-some k e)
+pair SubClassOf o e = linked SubClassOf 5 o a_subclass e
+pair SubPropertyOf o e = linked SubPropertyOf 6 o a_subproperty e
+pair Domain o e = linked Domain 7 o a_domain e
+pair Range o e = linked Range 8 o a_range e
+pair Exclusive o {k} e = absurd (none-some k e)
 
 -- A kind is a digit.
-pair_below : (p o : Term) → Pair p o → kind_by p o < 16
-pair_below _ _ a_class = omega arith
-pair_below _ _ a_property = omega arith
-pair_below _ _ (a_subclass b) = omega arith
-pair_below _ _ (a_subproperty b) = omega arith
-pair_below _ _ (a_domain b) = omega arith
-pair_below _ _ (a_range b) = omega arith
-pair_below _ _ (a_member b) = omega arith
-pair_below _ _ (a_value b c) = omega arith
-pair_below _ _ (a_literal b c) = omega arith
-pair_below _ _ an_exclusive = omega arith
-
-pub kind_below : (s p o : Term) → kind_from s p o < 16
-kind_below s p o = elim (dec_lt 0 (kind_from s p o)) [
-  | yes h ↦ linked (λ t. 1 ≤ kind_from t p o → kind_from t p o < 16) (kind_by p o) s (λ n k. pair_below p o (pair p o k)) h h
-  | no n ↦ omega (arith, n)
-]
+pub pair_below : {p o : Term} {k : ℕ} → Pair p o k → k < 16
+pair_below a_class = omega arith
+pair_below a_property = omega arith
+pair_below (a_subclass b) = omega arith
+pair_below (a_subproperty b) = omega arith
+pair_below (a_domain b) = omega arith
+pair_below (a_range b) = omega arith
+pair_below (a_member b) = omega arith
+pair_below (a_value b c) = omega arith
+pair_below (a_literal b c) = omega arith
+pair_below an_exclusive = omega arith

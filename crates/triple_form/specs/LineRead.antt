@@ -1,5 +1,5 @@
--- What is read of a line: the fact of its terms, and the line at the start of some bytes.
-use Rattle.std.specs.Prelude.{ℕ, ◌<◌, ◌≡◌, Bool, List, ◌++◌, T}
+-- What is read of a line: the fact of its terms, and the line at the start of some bytes; or none.
+use Rattle.std.specs.Prelude.{ℕ, ◌≡◌, Bool, List, ◌++◌, T, Some}
 use Rattle.rdfs.specs.Numbers.{product}
 use Rattle.rdfs.specs.Words.{word, fact, is_fact}
 use Rattle.triple_form.specs.Lines.{Line, subject, predicate, object, line_of, in_profile}
@@ -9,19 +9,29 @@ use Rattle.terms.specs.declared.term.Term.{Term}
 abbrev pub word_line : ℕ → Bool → Line
 word_line w literal = record { fact = fact product.base w; literal = literal }
 
--- The word of the fact whose line has three terms, and whether the object is a literal; 0 where no line
--- inside the profile has them.
-pub record FactOf (s p o : Term) (w : ℕ) (literal : Bool) : Type 0 where
-  pub sound : 0 < w → T (is_fact product w) × T (in_profile product.top (word_line w literal))
-      × (s ≡ subject (fact product.base w)) × (p ≡ predicate (fact product.base w))
-      × (o ≡ object literal (fact product.base w))
-  pub complete : (line : Line) → T (in_profile product.top line) → s ≡ subject line.fact
-      → p ≡ predicate line.fact → o ≡ object line.literal line.fact
-      → (w ≡ word product.base line.fact) × (literal ≡ line.literal)
+-- A line inside the profile has three terms.
+pub record HasTerms (s p o : Term) (line : Line) : Type 0 where
+  pub inside : T (in_profile product.top line)
+  pub subject_is : Some s ≡ subject line.fact
+  pub predicate_is : Some p ≡ predicate line.fact
+  pub object_is : Some o ≡ object line.literal line.fact
 
--- A line, by the word of its fact; 0 where the bytes do not begin with a line inside the profile.
+-- The word of the fact whose line has three terms, and whether the object is a literal.
+pub record FactOf (s p o : Term) (w : ℕ) (literal : Bool) : Type 0 where
+  pub sound : T (is_fact product w) × HasTerms s p o (word_line w literal)
+  pub complete : (line : Line) → HasTerms s p o line → (w ≡ word product.base line.fact) × (literal ≡ line.literal)
+
+-- No line inside the profile has three terms.
+pub record NoFact (s p o : Term) : Type 0 where
+  pub none : (line : Line) → HasTerms s p o line → ⊥
+
+-- A line, by the word of its fact.
 pub record LineRead (l : List ℕ) (w : ℕ) (literal : Bool) (left : List ℕ) : Type 0 where
-  pub sound : 0 < w → T (is_fact product w) × T (in_profile product.top (word_line w literal))
+  pub sound : T (is_fact product w) × T (in_profile product.top (word_line w literal))
       × (l ≡ line_of (word_line w literal) ++ left)
   pub complete : (line : Line) (rest : List ℕ) → T (in_profile product.top line) → l ≡ line_of line ++ rest
       → (w ≡ word product.base line.fact) × (literal ≡ line.literal) × (left ≡ rest)
+
+-- The bytes do not begin with a line inside the profile.
+pub record NoLine (l : List ℕ) : Type 0 where
+  pub none : (line : Line) (rest : List ℕ) → T (in_profile product.top line) → l ≡ line_of line ++ rest → ⊥

@@ -1,8 +1,8 @@
 -- The line of a fact, and which lines are inside the profile.
-use Rattle.std.specs.Prelude.{ℕ, Bool, not, ◌&&◌, ◌||◌, cond, List, ◌++◌, eqb, leb}
+use Rattle.std.specs.Prelude.{ℕ, Bool, not, ◌&&◌, ◌||◌, cond, List, ◌++◌, eqb, leb, Option, None, Some}
 use Rattle.rdfs.specs.Facts.{Fact, cl, pr, ind, lit, excl, csub, psub, dom, rng, ci, pi, kind, second}
 use Rattle.rdfs.specs.Words.{allowed}
-use Rattle.terms.specs.Terms.{bytes, spelt, ended}
+use Rattle.terms.specs.Terms.{bytes, spelling, ended}
 use Rattle.terms.specs.declared.term.Term.{Term}
 use Rattle.terms.specs.declared.term.Term.TheVariants.{
   Id,
@@ -15,7 +15,6 @@ use Rattle.terms.specs.declared.term.Term.TheVariants.{
   Domain,
   Range,
   Exclusive,
-  Other,
 }
 
 -- A line: a fact, and whether its object is a literal.
@@ -27,51 +26,51 @@ pub record Line : Type 0 where
 abbrev pub has_line : Fact → Bool
 has_line f = not (eqb (kind f) 3 || eqb (kind f) 4)
 
--- The three terms of a fact's line. Of PI(a,b,c) they are a, c, b.
-abbrev pub subject : Fact → Term
-subject (cl a) = Id a
-subject (pr a) = Id a
-subject (ind a) = Other
-subject (lit a) = Other
-subject (csub a b) = Id a
-subject (psub a b) = Id a
-subject (dom a b) = Id a
-subject (rng a b) = Id a
-subject (ci a b) = Id a
-subject (pi a b c) = Id a
-subject (excl a) = Id a
+-- The three terms of a fact's line; a fact without a line has none. Of PI(a,b,c) they are a, c, b.
+abbrev pub subject : Fact → Option Term
+subject (cl a) = Some (Id a)
+subject (pr a) = Some (Id a)
+subject (ind a) = None
+subject (lit a) = None
+subject (csub a b) = Some (Id a)
+subject (psub a b) = Some (Id a)
+subject (dom a b) = Some (Id a)
+subject (rng a b) = Some (Id a)
+subject (ci a b) = Some (Id a)
+subject (pi a b c) = Some (Id a)
+subject (excl a) = Some (Id a)
 
-abbrev pub predicate : Fact → Term
-predicate (cl a) = RdfType
-predicate (pr a) = RdfType
-predicate (ind a) = Other
-predicate (lit a) = Other
-predicate (csub a b) = SubClassOf
-predicate (psub a b) = SubPropertyOf
-predicate (dom a b) = Domain
-predicate (rng a b) = Range
-predicate (ci a b) = RdfType
-predicate (pi a b c) = Id c
-predicate (excl a) = RdfType
+abbrev pub predicate : Fact → Option Term
+predicate (cl a) = Some RdfType
+predicate (pr a) = Some RdfType
+predicate (ind a) = None
+predicate (lit a) = None
+predicate (csub a b) = Some SubClassOf
+predicate (psub a b) = Some SubPropertyOf
+predicate (dom a b) = Some Domain
+predicate (rng a b) = Some Range
+predicate (ci a b) = Some RdfType
+predicate (pi a b c) = Some (Id c)
+predicate (excl a) = Some RdfType
 
-abbrev pub object : Bool → Fact → Term
-object literal (cl a) = Class
-object literal (pr a) = Property
-object literal (ind a) = Other
-object literal (lit a) = Other
-object literal (csub a b) = Id b
-object literal (psub a b) = Id b
-object literal (dom a b) = Id b
-object literal (rng a b) = Id b
-object literal (ci a b) = Id b
-object literal (pi a b c) = cond literal (Literal b) (Id b)
-object literal (excl a) = Exclusive
+abbrev pub object : Bool → Fact → Option Term
+object literal (cl a) = Some Class
+object literal (pr a) = Some Property
+object literal (ind a) = None
+object literal (lit a) = None
+object literal (csub a b) = Some (Id b)
+object literal (psub a b) = Some (Id b)
+object literal (dom a b) = Some (Id b)
+object literal (rng a b) = Some (Id b)
+object literal (ci a b) = Some (Id b)
+object literal (pi a b c) = Some (cond literal (Literal b) (Id b))
+object literal (excl a) = Some Exclusive
 
 -- Three terms with one blank between, then a blank, a full stop and a newline.
 unfoldable pub line_of : Line → List ℕ
 line_of line =
-    ended (spelt (subject line.fact)) ++ (ended (spelt (predicate line.fact))
-    ++ (ended (spelt (object line.literal line.fact)) ++ bytes ".\n"))
+    ended (spelling (subject line.fact)) ++ (ended (spelling (predicate line.fact))
+    ++ (ended (spelling (object line.literal line.fact)) ++ bytes ".\n"))
 
 -- A line is inside the profile exactly if it is the line of a fact that a table can have; a literal is from 2
 -- on and stands only as the object of a PI line.

@@ -1,9 +1,10 @@
 // The fact whose line has three terms.
-ghost use Rattle.std.specs.Prelude.{◌≡◌};
+ghost use Rattle.std.specs.Prelude.{◌≡◌, MatchOption};
 ghost use Rattle.rdfs.specs.Numbers.{product};
-ghost use Rattle.triple_form.specs.FactTerms.{Known, id_in, is_literal};
+ghost use Rattle.terms.specs.Terms.{Proper};
+ghost use Rattle.triple_form.specs.FactTerms.{id_in, is_literal};
 ghost use Rattle.triple_form.specs.FactKinds.{typed_kind, linked_kind, value_kind, kind_by};
-ghost use Rattle.triple_form.specs.LineRead.{FactOf};
+ghost use Rattle.triple_form.specs.LineRead.{FactOf, NoFact};
 
 use table::{
     CLASS, DOMAIN, EXCLUSIVE, MEMBER, PROPERTY, RANGE, SUBCLASS, SUBPROPERTY, VALUE, Word, is_fact,
@@ -11,29 +12,20 @@ use table::{
 };
 use terms::Term;
 
-// The word of a fact, 0 for none, and whether its object is a literal.
+// The word of a fact, and whether the object of its line is a literal.
 #[derive(Clone, Copy)]
 pub struct Told {
     pub word: Word,
     pub literal: bool,
 }
 
-// The id of an IRI or of a literal; 0 for another term.
-fn id_in(term: Term) -> Word
+// The id of an IRI or of a literal.
+fn id_in(term: Term) -> Option<Word>
     ensures answer { result ≡ id_in term }
 {
     match term {
-        Term::Id(n) => n,
-        Term::Literal(n) => n,
-        Term::RdfType => 0,
-        Term::Property => 0,
-        Term::Class => 0,
-        Term::SubClassOf => 0,
-        Term::SubPropertyOf => 0,
-        Term::Domain => 0,
-        Term::Range => 0,
-        Term::Exclusive => 0,
-        Term::Other => 0,
+        Term::Id(n) | Term::Literal(n) => Some(n),
+        _ => None,
     }
 }
 
@@ -41,80 +33,44 @@ fn id_in(term: Term) -> Word
 fn is_literal(term: Term) -> bool
     ensures answer { result ≡ is_literal term }
 {
-    match term {
-        Term::Literal(_) => true,
-        Term::Id(_) => false,
-        Term::RdfType => false,
-        Term::Property => false,
-        Term::Class => false,
-        Term::SubClassOf => false,
-        Term::SubPropertyOf => false,
-        Term::Domain => false,
-        Term::Range => false,
-        Term::Exclusive => false,
-        Term::Other => false,
-    }
+    matches!(term, Term::Literal(_))
 }
 
-// The kind of a line of rdf:type with an object; 0 for none.
-fn typed_kind(object: Term) -> Word
+// The kind of a line of rdf:type with an object.
+fn typed_kind(object: Term) -> Option<Word>
     ensures answer { result ≡ typed_kind object }
 {
     match object {
-        Term::Class => CLASS,
-        Term::Property => PROPERTY,
-        Term::Id(_) => MEMBER,
-        Term::Exclusive => EXCLUSIVE,
-        Term::Literal(_) => 0,
-        Term::RdfType => 0,
-        Term::SubClassOf => 0,
-        Term::SubPropertyOf => 0,
-        Term::Domain => 0,
-        Term::Range => 0,
-        Term::Other => 0,
+        Term::Class => Some(CLASS),
+        Term::Property => Some(PROPERTY),
+        Term::Id(_) => Some(MEMBER),
+        Term::Exclusive => Some(EXCLUSIVE),
+        _ => None,
     }
 }
 
-// The kind k if a term is the IRI of an id; 0 if not.
-fn linked_kind(k: Word, term: Term) -> Word
+// The kind k if a term is the IRI of an id.
+fn linked_kind(k: Word, term: Term) -> Option<Word>
     ensures answer { result ≡ linked_kind k term }
 {
     match term {
-        Term::Id(_) => k,
-        Term::Literal(_) => 0,
-        Term::RdfType => 0,
-        Term::Property => 0,
-        Term::Class => 0,
-        Term::SubClassOf => 0,
-        Term::SubPropertyOf => 0,
-        Term::Domain => 0,
-        Term::Range => 0,
-        Term::Exclusive => 0,
-        Term::Other => 0,
+        Term::Id(_) => Some(k),
+        _ => None,
     }
 }
 
-// The kind of a line of a property with an object; 0 for none.
-fn value_kind(object: Term) -> Word
+// The kind of a line of a property with an object.
+fn value_kind(object: Term) -> Option<Word>
     ensures answer { result ≡ value_kind object }
 {
     match object {
-        Term::Id(_) => VALUE,
-        Term::Literal(_) => VALUE,
-        Term::RdfType => 0,
-        Term::Property => 0,
-        Term::Class => 0,
-        Term::SubClassOf => 0,
-        Term::SubPropertyOf => 0,
-        Term::Domain => 0,
-        Term::Range => 0,
-        Term::Exclusive => 0,
-        Term::Other => 0,
+        Term::Id(_) | Term::Literal(_) => Some(VALUE),
+        _ => None,
     }
 }
 
-// The kind of a line with a predicate and an object; 0 for none.
-fn kind_by(predicate: Term, object: Term) -> Word
+// The kind of a line with a predicate and an object.
+fn kind_by(predicate: Term, object: Term) -> Option<Word>
     ensures answer { result ≡ kind_by predicate object }
 {
     match predicate {
@@ -124,29 +80,29 @@ fn kind_by(predicate: Term, object: Term) -> Word
         Term::SubPropertyOf => linked_kind(SUBPROPERTY, object),
         Term::Domain => linked_kind(DOMAIN, object),
         Term::Range => linked_kind(RANGE, object),
-        Term::Literal(_) => 0,
-        Term::Property => 0,
-        Term::Class => 0,
-        Term::Exclusive => 0,
-        Term::Other => 0,
+        _ => None,
     }
 }
 
 // The fact whose line has three terms.
-pub fn fact_of(subject: Term, predicate: Term, object: Term) -> Told
-    requires subject { Known product.top subject }
-    requires predicate { Known product.top predicate }
-    requires object { Known product.top object }
-    ensures answer { FactOf subject predicate object result.word result.literal }
+pub fn fact_of(subject: Term, predicate: Term, object: Term) -> Option<Told>
+    requires subject { Proper product.top subject }
+    requires predicate { Proper product.top predicate }
+    requires object { Proper product.top object }
+    ensures answer { MatchOption result (NoFact subject predicate object)
+        (λ told. FactOf subject predicate object told.word told.literal) }
 {
-    let literal = is_literal(object);
-    let k = linked_kind(kind_by(predicate, object), subject);
-    let a = id_in(subject);
-    let b = id_in(object);
-    let c = id_in(predicate);
+    let Term::Id(a) = subject else {
+        return None;
+    };
+    let k = kind_by(predicate, object)?;
+    let b = id_in(object).unwrap_or(0);
+    let c = id_in(predicate).unwrap_or(0);
     let word = word_of(k, a, b, c);
+    let literal = is_literal(object);
     if is_fact(word) {
-        return Told { word, literal };
+        Some(Told { word, literal })
+    } else {
+        None
     }
-    Told { word: 0, literal }
 }

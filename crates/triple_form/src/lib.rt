@@ -8,4 +8,5 @@
 mod fact;
 mod line;
 
-pub use line::{LONGEST_LINE, Read, has_line, line_length, put_line, read_line};
+pub use fact::Told;
+pub use line::{LONGEST_LINE, has_line, line_length, put_line, read_line};

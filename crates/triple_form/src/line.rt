@@ -1,30 +1,22 @@
 // The line of a fact, by the fact's word: its terms, its length, and its bytes put into lent ones; a line
 // read from a text.
-ghost use Rattle.std.specs.Prelude.{◌≡◌, cond, ◌≤◌, T, length, drop};
+ghost use Rattle.std.specs.Prelude.{◌≡◌, cond, T, length, MatchOption, Some};
 ghost use Rattle.rdfs.specs.Numbers.{product};
 ghost use Rattle.rdfs.specs.Words.{fact, is_fact};
 ghost use Rattle.triple_form.specs.Lines.{has_line, subject, predicate, object, line_of};
 ghost use Rattle.terms.specs.Putting.{Room, Puts};
-ghost use Rattle.triple_form.specs.LineRead.{word_line, LineRead};
+ghost use Rattle.triple_form.specs.LineRead.{word_line, LineRead, NoLine};
 ghost use Rattle.terms.specs.declared.term.Term.TheVariants.{Id, Literal};
 
-use crate::fact::fact_of;
+use crate::fact::{Told, fact_of};
 use table::{
     CLASS, DOMAIN, EXCLUSIVE, INDIVIDUAL, LITERAL, PROPERTY, RANGE, SUBCLASS, SUBPROPERTY, VALUE,
     Word, first_of, kind_of, second_of, third_of,
 };
-use terms::{Term, has_at, put_ended, put_piece, read_ended, term_length};
+use terms::{Term, put_ended, put_piece, read_ended, term_length};
 
 // No line inside the profile has more bytes.
 pub const LONGEST_LINE: usize = 154;
-
-// A line read: the word of its fact, 0 for none; whether its object is a literal; the place after it.
-#[derive(Clone, Copy)]
-pub struct Read {
-    pub word: Word,
-    pub literal: bool,
-    pub next: usize,
-}
 
 // Whether a fact has a line: Ind and Lit have none.
 pub fn has_line(word: Word) -> bool
@@ -32,20 +24,14 @@ pub fn has_line(word: Word) -> bool
     ensures answer { result ≡ has_line (fact product.base word) }
 {
     let k = kind_of(word);
-    if k == INDIVIDUAL {
-        return false;
-    }
-    if k == LITERAL {
-        return false;
-    }
-    true
+    k != INDIVIDUAL && k != LITERAL
 }
 
 // The predicate of a fact's line: rdf:type for Cl, Pr, CI and Excl.
 fn predicate_of(word: Word) -> Term
     requires fact { T (is_fact product word) }
     requires line { T (has_line (fact product.base word)) }
-    ensures answer { result ≡ predicate (fact product.base word) }
+    ensures answer { Some result ≡ predicate (fact product.base word) }
 {
     let k = kind_of(word);
     match k {
@@ -62,7 +48,7 @@ fn predicate_of(word: Word) -> Term
 fn object_of(word: Word, literal: bool) -> Term
     requires fact { T (is_fact product word) }
     requires line { T (has_line (fact product.base word)) }
-    ensures answer { result ≡ object literal (fact product.base word) }
+    ensures answer { Some result ≡ object literal (fact product.base word) }
 {
     let k = kind_of(word);
     let b = second_of(word);
@@ -80,9 +66,10 @@ fn value_term(b: Word, literal: bool) -> Term
     ensures answer { result ≡ cond literal (Literal b) (Id b) }
 {
     if literal {
-        return Term::Literal(b);
+        Term::Literal(b)
+    } else {
+        Term::Id(b)
     }
-    Term::Id(b)
 }
 
 // The length of a fact's line.
@@ -111,31 +98,15 @@ pub fn put_line(output: &mut [u8], at: usize, word: Word, literal: bool) -> usiz
     put_piece(output, last, b".\n")
 }
 
-// The line inside the profile that stands from place `at` on.
-pub fn read_line(text: &[u8], at: usize) -> Read
-    requires place { at ≤ length text.now }
-    ensures answer { LineRead (drop at text.now) result.word result.literal
-        (drop result.next text.now) }
-    ensures within { result.next ≤ length text.now }
+// The line inside the profile that stands at the start of a text, and the text behind it.
+pub fn read_line(text: &[u8]) -> Option<(Told, &[u8])>
+    ensures answer { MatchOption result (NoLine text.now)
+        (λ read. LineRead text.now read.0.word read.0.literal read.1.now) }
 {
-    let first = read_ended(text, at);
-    let second = read_ended(text, first.next);
-    let third = read_ended(text, second.next);
-    let ended = has_at(text, third.next, b".\n");
-    if ended {
-        let subject = first.term;
-        let predicate = second.term;
-        let object = third.term;
-        let told = fact_of(subject, predicate, object);
-        return Read {
-            word: told.word,
-            literal: told.literal,
-            next: third.next + 2,
-        };
-    }
-    Read {
-        word: 0,
-        literal: false,
-        next: at,
-    }
+    let (subject, second) = read_ended(text)?;
+    let (predicate, third) = read_ended(second)?;
+    let (object, last) = read_ended(third)?;
+    let rest = last.strip_prefix(b".\n")?;
+    let told = fact_of(subject, predicate, object)?;
+    Some((told, rest))
 }

@@ -7,13 +7,14 @@ use mathlib.Core.List.{List, [], ◌∷◌, ◌++◌}
 use native.Mathlib.Omega.{arith}
 use native.Mathlib.Decide.{ℕ_discrete}
 use lib.Dec.{T, eqb}
+use Rattle.std.proofs.Common.{Option, Some}
 use lib.ListN.{get_or}
 use Rattle.rdfs.specs.Numbers.{product}
 use Rattle.rdfs.specs.Lists.{same_list}
 use Rattle.rdfs.proofs.Lists.Tests.{either_or, or_either}
 use Rattle.rdfs.proofs.Lists.Filters.{cond_yes, cond_no}
 use Rattle.rdfs.proofs.Lists.SameList.{same_list_eq, same_list_refl}
-use Rattle.terms.specs.Terms.{bytes, decimal, rdfs, spelt, Proper}
+use Rattle.terms.specs.Terms.{bytes, decimal, rdfs, spelt, spelling, Proper}
 use Rattle.terms.specs.Terms.{ended}
 use Rattle.terms.specs.declared.term.Term.{Term}
 use Rattle.terms.specs.declared.term.Term.TheVariants.{Id, Literal}
@@ -81,13 +82,13 @@ id_of_literal m n two h g = id_of_is (ended (spelt (Literal n))) n m h
     (λ k a b t. omega (arith, a, literal_named n k two (omega (arith, h, g)) (omega (arith, two, a)) (omega (arith, b, g)) t))
 
 -- The number that a term tells as a part.
-unfoldable pub tells : Term → ℕ
-tells t = id_of top (ended (spelt t))
+unfoldable pub told : Option Term → ℕ
+told t = id_of top (ended (spelling t))
 
-pub tells_id : (n : ℕ) → n ≤ top → tells (Id n) ≡ n
-unfolding tells
+pub tells_id : (n : ℕ) → n ≤ top → told (Some (Id n)) ≡ n
+unfolding told
 tells_id n h = id_of_id top n h (omega arith)
 
-pub tells_literal : (n : ℕ) → 2 ≤ n → n ≤ top → tells (Literal n) ≡ n
-unfolding tells
+pub tells_literal : (n : ℕ) → 2 ≤ n → n ≤ top → told (Some (Literal n)) ≡ n
+unfolding told
 tells_literal n two h = id_of_literal top n two h (omega arith)

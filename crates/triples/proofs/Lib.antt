@@ -3,11 +3,11 @@
 -- Written, ReadFacts: lines inside the profile and the facts they give, of a table and of a text. WriteAnswer, ReadAnswer: the
 -- answers of the calls. TextLines, AnyOrder: texts by their lines. TriplesTheorems: what is proved of texts.
 -- TriplesCallTheorems: what is proved of the calls from their contracts.
--- Of writing. LiteralFlags: for flag_literals, has_literal and write_checked. WordText: the text of one word, for fact_length and
--- put_fact. TextPut: for text_length and put_text. WriteTriplesCall: for write_checked and write_triples.
+-- Of writing. Numbered: the numbers of refusals. LiteralFlags: for flag_literals, has_literal and write_checked. WordText: the text
+-- of one word, for fact_length and put_fact. TextPut: for text_length and put_text. WriteTriplesCall: for write_checked.
 -- Of reading. PutAll: words put into a list. Pending: words stored in a table, for store_word and all that store. Ids: for
--- have_common and store_flagged. LineIds: the ids that lines have, for fill_text. LineFlags: for flag_line. LinesLeft: for
--- judge_lines. LinesStored: for store_lines. TextStored: for store_text. TextPuts, ToldTwice: the words of the facts that a text
+-- tells_twice and store_flagged. LineIds: the ids that lines have, for fill_text. LineFlags: for flag_line. LinesLeft: for
+-- flag_lines. LinesStored: for store_lines. TextStored: for fill_text. TextPuts, ToldTwice: the words of the facts that a text
 -- gives, and ids told of twice, for TextFilled. TextFilled: for fill_text. ReadTriplesCall: for read_through and read_triples,
 -- and for the crate above.
 -- WriteTriplesTied, ReadTriplesTied: the contracts in the source are the promises.
@@ -29,6 +29,7 @@ pub mod TriplesCallTheorems
 mod LiteralFlags
 mod WordText
 mod TextPut
+pub mod Numbered
 mod WriteTriplesCall
 mod WriteTriplesTied
 mod PutAll

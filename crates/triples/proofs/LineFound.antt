@@ -5,6 +5,7 @@ use mathlib.Core.Bool.{Bool, true, false, ◌&&◌}
 use mathlib.Core.Logic.{⊎_elim}
 use mathlib.Core.List.{List, [], ◌∷◌, ◌++◌}
 use lib.Dec.{T}
+use Rattle.std.proofs.Common.{Option}
 use lib.ListN.{take, get_or}
 use Rattle.rdfs.specs.Numbers.{product}
 use Rattle.rdfs.specs.Lists.{◌∈◌, here, there, filter, concat_map, same_list}
@@ -12,28 +13,28 @@ use Rattle.rdfs.specs.Facts.{Fact, cl, pr, ind, lit, excl, csub, psub, dom, rng,
 use Rattle.rdfs.proofs.Lists.Tests.{and_both, both_and}
 use Rattle.rdfs.proofs.Lists.ListLaws.{none_in, in_cons, in_filter, filter_in, concat_map_in}
 use Rattle.rdfs.proofs.Lists.SameList.{same_list_eq, same_list_refl}
-use Rattle.terms.specs.Terms.{bytes, spelt, Proper}
+use Rattle.terms.specs.Terms.{bytes, spelling, ProperSome}
 use Rattle.terms.specs.Terms.{ended}
 use Rattle.triple_form.specs.Lines.{Line, has_line, subject, predicate, object, line_of, in_profile}
 use Rattle.terms.specs.declared.term.Term.{Term}
-use Rattle.terms.proofs.Spelling.{spelt_free}
+use Rattle.terms.proofs.Spelling.{spelling_free}
 use Rattle.triple_form.proofs.LineLaws.{line_one, line_known}
 use Rattle.triples.specs.TextRead.{cut_after, id_of, both_of, line_kinds, could_be, line_read}
 use Rattle.triples.proofs.CutAfter.{Free, cut_ended}
-use Rattle.triples.proofs.IdOf.{tells, tells_id, tells_literal}
+use Rattle.triples.proofs.IdOf.{told, tells_id, tells_literal}
 
 abbrev top : ℕ
 top = product.top
 
 -- The parts of a line: its terms, each with its blank, and the rest.
-parts : (s p o : Term) → Proper top s → Proper top p → Proper top o
-    → cut_after 32 (ended (spelt s) ++ (ended (spelt p) ++ (ended (spelt o) ++ bytes ".\n")))
-    ≡ ended (spelt s) ∷ ended (spelt p) ∷ ended (spelt o) ∷ bytes ".\n" ∷ []
+parts : (s p o : Option Term) → ProperSome top s → ProperSome top p → ProperSome top o
+    → cut_after 32 (ended (spelling s) ++ (ended (spelling p) ++ (ended (spelling o) ++ bytes ".\n")))
+    ≡ ended (spelling s) ∷ ended (spelling p) ∷ ended (spelling o) ∷ bytes ".\n" ∷ []
 parts s p o a b c =
-    let blank : (t : Term) → Proper top t → Free 32 (spelt t) = λ t h x m. (spelt_free t h x m).0 in
-    cut_ended 32 (spelt s) (ended (spelt p) ++ (ended (spelt o) ++ bytes ".\n")) (blank s a)
-    ∙ ap (λ m. ended (spelt s) ∷ m) (cut_ended 32 (spelt p) (ended (spelt o) ++ bytes ".\n") (blank p b)
-    ∙ ap (λ m. ended (spelt p) ∷ m) (cut_ended 32 (spelt o) (bytes ".\n") (blank o c)))
+    let blank : (t : Option Term) → ProperSome top t → Free 32 (spelling t) = λ t h x m. (spelling_free t h x m).0 in
+    cut_ended 32 (spelling s) (ended (spelling p) ++ (ended (spelling o) ++ bytes ".\n")) (blank s a)
+    ∙ ap (λ m. ended (spelling s) ∷ m) (cut_ended 32 (spelling p) (ended (spelling o) ++ bytes ".\n") (blank p b)
+    ∙ ap (λ m. ended (spelling p) ∷ m) (cut_ended 32 (spelling o) (bytes ".\n") (blank o c)))
 
 -- The lines of each kind with three ids.
 abbrev could : ℕ → ℕ → ℕ → List Line
@@ -61,8 +62,8 @@ kind_there (pi a b c) t = there (there (there (there (there (there (there (here 
 kind_there (excl a) t = there (there (there (there (there (there (there (there (here refl))))))))
 
 -- A fact with a line is made of what its terms tell.
-made_told : (f : Fact) (l : Bool) → Proper top (subject f) → Proper top (predicate f) → Proper top (object l f)
-    → made (kind f) (tells (subject f)) (tells (object l f)) (tells (predicate f)) ≡ f
+made_told : (f : Fact) (l : Bool) → ProperSome top (subject f) → ProperSome top (predicate f) → ProperSome top (object l f)
+    → made (kind f) (told (subject f)) (told (object l f)) (told (predicate f)) ≡ f
 made_told (cl a) l s p o = ap cl (tells_id a s)
 made_told (pr a) l s p o = ap pr (tells_id a s)
 made_told (ind a) l s p o = absurd s
@@ -78,8 +79,8 @@ made_told (excl a) l s p o = ap excl (tells_id a s)
 
 could_be_lem : (x : Line) → T (in_profile top x)
     → could_be top (line_of x)
-    ≡ could (tells (subject x.fact)) (tells (object x.literal x.fact)) (tells (predicate x.fact))
-unfolding line_of tells
+    ≡ could (told (subject x.fact)) (told (object x.literal x.fact)) (told (predicate x.fact))
+unfolding line_of told
 could_be_lem x h =
     let known = line_known x h in
     ap (λ (m : List (List ℕ)). could (id_of top (get_or m 0 [])) (id_of top (get_or m 2 [])) (id_of top (get_or m 1 [])))
@@ -89,9 +90,9 @@ found : (x : Line) → T (in_profile top x) → x ∈ could_be top (line_of x)
 found x h =
     let f : Fact = x.fact in
     let known = line_known x h in
-    let s : ℕ = tells (subject f) in
-    let p : ℕ = tells (predicate f) in
-    let o : ℕ = tells (object x.literal f) in
+    let s : ℕ = told (subject f) in
+    let p : ℕ = told (predicate f) in
+    let o : ℕ = told (object x.literal f) in
     let both : x ∈ both_of (made (kind f) s o p) =
     in_both x (made (kind f) s o p) (made_told f x.literal known.0 known.1 known.2) in
     subst (λ m. x ∈ m) (sym (could_be_lem x h))

@@ -12,7 +12,7 @@ use Rattle.rdfs.proofs.Lists.Tests.{and_both}
 use Rattle.rdfs.proofs.Lists.ListLaws.{any_in}
 use Rattle.rdfs.proofs.Words.Allowed.{Fields, fields}
 use Rattle.table.proofs.TestAnswers.{is_false}
-use Rattle.flags.specs.Flags.{Whole, Says}
+use Rattle.flags.specs.Flags.{Says}
 use Rattle.triple_form.specs.Lines.{Line, in_profile}
 use Rattle.triples.specs.TextRead.{lines_read, as_literal, as_iri, is_member}
 use Rattle.triples.specs.Storing.{Flagged}
@@ -47,19 +47,17 @@ module _ (text : List ℕ) where
     pub second_id : second x.fact ≤ product.top
     second_id = (line_fields x (read_profile text x m)).two
 
-  pub members_flagged : {members : List Bool} → Whole members → Says members (λ n. any (is_member n) (lines_read top text))
+  pub members_flagged : {members : List Bool} → Says members (λ n. any (is_member n) (lines_read top text))
       → Flagged 3 members
-  members_flagged w s = record {
-    whole = w;
+  members_flagged s = record {
     kind = refl;
     no_mark = s.at 1 ∙ is_false (λ t. let r = any_in (is_member 1) lines t in
         (line_fields r.0 (read_profile text r.0 r.1)).one_mark (member_is 1 r.0 r.2));
   }
 
-  pub literals_flagged : {literals : List Bool} → Whole literals → Says literals (λ n. any (as_literal n) (lines_read top text))
+  pub literals_flagged : {literals : List Bool} → Says literals (λ n. any (as_literal n) (lines_read top text))
       → Flagged 4 literals
-  literals_flagged w s = record {
-    whole = w;
+  literals_flagged s = record {
     kind = refl;
     no_mark = s.at 1 ∙ is_false (λ t. let r = any_in (as_literal 1) lines t in
         let q = literal_is 1 r.0 r.2 in

@@ -1,153 +1,145 @@
 -- One line read at the start of the lines that are left of a text, and what it adds. Assumes nothing.
 use Prim.Native.Nat.{ℕ, ◌≤◌, ◌<◌}
 use mathlib.Core.Path.{◌≡◌, refl, sym, ap, subst, ◌∙◌}
-use mathlib.Core.Bool.{Bool, true, false, ◌||◌, or_assoc, or-false}
+use mathlib.Core.Bool.{Bool, false, ◌||◌, or_assoc, or-false}
 use mathlib.Core.List.{List, [], ◌∷◌, map}
 use native.Mathlib.Omega.{arith}
 use native.Mathlib.Decide.{dec_lt}
-use lib.Dec.{T}
-use lib.ListN.{length, drop, length-append, length-drop, drop_of_length-le}
+use lib.Dec.{T, eqb}
+use borrow.Author.Tests.{ne_eqb}
+use lib.ListN.{length, length-append}
 use Rattle.rdfs.specs.Numbers.{product}
 use Rattle.rdfs.specs.Lists.{any}
 use Rattle.rdfs.specs.Words.{word}
-use Rattle.rdfs.proofs.Words.Digits.{word_some}
 use Rattle.rdfs.proofs.Words.LaidOut.{fact_says}
-use Rattle.flags.specs.Flags.{flagged, Whole, Adds}
+use Rattle.flags.specs.Flags.{flagged, Adds}
 use Rattle.triple_form.specs.Lines.{Line, line_of}
-use Rattle.triple_form.specs.LineRead.{word_line, LineRead}
+use Rattle.triple_form.specs.LineRead.{word_line, LineRead, NoLine}
 use Rattle.triple_form.proofs.LineLength.{line_some}
 use Rattle.triples.specs.TextRead.{lines_read, all_inside, as_literal, as_iri, is_member}
 use Rattle.triples.specs.Storing.{FlagsLines, line_words}
+use Rattle.triples.specs.declared.seen.Seen.{Seen}
 use Rattle.triples.proofs.LinesRead.{top, lines_read_none, lines_read_more}
 use Rattle.triples.proofs.AllInside.{inside_none, inside_more, inside_never}
 
--- No line stands there, or one.
-module _ {l : List ℕ} {w : ℕ} {literal : Bool} {left : List ℕ} (r : LineRead l w literal left) where
-  pub line_none : w ≡ 0 → 1 ≤ length l → all_inside top l ≡ false
-  line_none z long = inside_never l long (λ x rest h e.
-      omega (arith, z, (r.complete x rest h e).0, word_some product.base x.fact (omega arith)))
+-- No line stands there: all lines are inside the profile only at the end.
+module _ {l : List ℕ} (n : NoLine l) where
+  no_line_inside : 1 ≤ length l → all_inside top l ≡ false
+  no_line_inside long = inside_never l long (λ x rest h e. n.none x rest h e)
 
-  pub line_there : T (all_inside top l) → 1 ≤ length l → 0 < w
-  line_there t long = elim (dec_lt 0 w) [
-    | yes h ↦ h
-    | no n ↦ absurd (subst T (line_none (omega (arith, n)) long) t)
+  pub at_end : T (all_inside top l) → l ≡ []
+  at_end t = elim (dec_lt 0 (length l)) [
+    | yes h ↦ absurd (subst T (no_line_inside h) t)
+    | no h ↦ length_none l (omega (arith, h))
   ]
+    where
+      length_none : (m : List ℕ) → length m ≡ 0 → m ≡ []
+      length_none [] e = refl
+      length_none (x ∷ m) e = absurd (omega (arith, e))
 
-  module _ (h : 0 < w) where
-    line_first : lines_read top l ≡ word_line w literal ∷ lines_read top left
-    line_first = ap (lines_read top) (r.sound h).2 ∙ lines_read_more (word_line w literal) left (r.sound h).1
+  pub is_end : {b : Bool} → b ≡ eqb (length l) 0 → b ≡ all_inside top l
+  is_end {b} e = elim (dec_lt 0 (length l)) [
+    | yes h ↦ e ∙ (ne_eqb (length l) 0 (λ z. omega (arith, z, h)) ∙ sym (no_line_inside h))
+    | no h ↦ by l (omega (arith, h)) e
+  ]
+    where
+      by : (m : List ℕ) → length m ≡ 0 → b ≡ eqb (length m) 0 → b ≡ all_inside top m
+      by [] z q = q ∙ sym inside_none
+      by (x ∷ m) z q = absurd (omega (arith, z))
 
-    pub line_inside : all_inside top l ≡ all_inside top left
-    line_inside = ap (all_inside top) (r.sound h).2 ∙ inside_more (word_line w literal) left (r.sound h).1
+-- A line stands there.
+module _ {l : List ℕ} {w : ℕ} {literal : Bool} {left : List ℕ} (r : LineRead l w literal left) where
+  line_first : lines_read top l ≡ word_line w literal ∷ lines_read top left
+  line_first = ap (lines_read top) r.sound.2 ∙ lines_read_more (word_line w literal) left r.sound.1
 
-    pub line_shorter : length left < length l
-    line_shorter = omega (
-      arith,
-      ap length (r.sound h).2,
-      length-append (line_of (word_line w literal)) left,
-      line_some (word_line w literal),
-    )
+  pub line_inside : all_inside top l ≡ all_inside top left
+  line_inside = ap (all_inside top) r.sound.2 ∙ inside_more (word_line w literal) left r.sound.1
 
-    pub line_words_lem : line_words l ≡ w ∷ line_words left
-    line_words_lem = ap (map (λ x. word product.base x.fact)) line_first
-        ∙ ap (λ n. n ∷ line_words left) (fact_says product w (r.sound h).0)
+  pub line_shorter : length left < length l
+  line_shorter = omega (
+    arith,
+    ap length r.sound.2,
+    length-append (line_of (word_line w literal)) left,
+    line_some (word_line w literal),
+  )
 
-    -- A test of its lines.
-    line_any : (test : Line → Bool)
-        → any test (lines_read top l) ≡ (test (word_line w literal) || any test (lines_read top left))
-    line_any test = ap (any test) line_first
+  pub line_words_lem : line_words l ≡ w ∷ line_words left
+  line_words_lem = ap (map (λ x. word product.base x.fact)) line_first
+      ∙ ap (λ n. n ∷ line_words left) (fact_says product w r.sound.0)
 
--- The places: the next line stands further on.
-pub next_place : (text : List ℕ) (at next : ℕ) → next ≤ length text → length (drop next text) < length (drop at text) → at < next
-next_place text at next h l = omega (arith, length-drop at text, length-drop next text)
+  -- A test of its lines.
+  line_any : (test : Line → Bool)
+      → any test (lines_read top l) ≡ (test (word_line w literal) || any test (lines_read top left))
+  line_any test = ap (any test) line_first
 
-pub left_long : (text : List ℕ) (at : ℕ) → at < length text → 1 ≤ length (drop at text)
-left_long text at h = omega (arith, length-drop at text)
-
-pub left_none : (text : List ℕ) (at : ℕ) → length text ≤ at → drop at text ≡ []
-left_none text at h = drop_of_length-le text h
-
--- The lines before place `at` are inside the profile, and the ids that they have by a test are flagged.
-pub record Flagging (test : ℕ → Line → Bool) (text : List ℕ) (at : ℕ) (old new : List Bool) : Type 0 where
+-- The lines in front of what is left are inside the profile, and the ids that they have by a test are flagged.
+pub record Flagging (test : ℕ → Line → Bool) (text left : List ℕ) (old new : List Bool) : Type 0 where
   pub rest : (n : ℕ) → (flagged old n || any (test n) (lines_read top text)) ≡ (flagged new n || any (test n)
-      (lines_read top (drop at text)))
-  pub same : length new ≡ length old
+      (lines_read top left))
 
-pub flagging_start : (test : ℕ → Line → Bool) (text : List ℕ) (old : List Bool) → Flagging test text 0 old old
-flagging_start test text old = record { rest = λ n. refl; same = refl }
+flagging_start : (test : ℕ → Line → Bool) (text : List ℕ) (old : List Bool) → Flagging test text text old old
+flagging_start test text old = record { rest = λ n. refl }
 
-module _ {test : ℕ → Line → Bool} {text : List ℕ} {at : ℕ} {old new : List Bool} (f : Flagging test text at old new) where
-  pub flagging_more : {w : ℕ} {literal : Bool} {next : ℕ} → LineRead (drop at text) w literal (drop next text) → 0 < w
-      → {newer : List Bool} → length newer ≡ length new → Adds new newer (λ n. test n (word_line w literal))
-      → Flagging test text next old newer
-  flagging_more {w} {literal} {next} r h {newer} e a = record {
+module _ {test : ℕ → Line → Bool} {text left : List ℕ} {old new : List Bool} (f : Flagging test text left old new) where
+  flagging_more : {w : ℕ} {literal : Bool} {next : List ℕ} → LineRead left w literal next → {newer : List Bool}
+      → Adds new newer (λ n. test n (word_line w literal)) → Flagging test text next old newer
+  flagging_more {w} {literal} {next} r {newer} a = record {
     rest = λ n.
         let x : Line = word_line w literal in
-        let rest : Bool = any (test n) (lines_read top (drop next text)) in
-        f.rest n ∙ (ap (λ b. flagged new n || b) (line_any r h (test n))
+        let rest : Bool = any (test n) (lines_read top next) in
+        f.rest n ∙ (ap (λ b. flagged new n || b) (line_any r (test n))
         ∙ (sym (or_assoc (flagged new n) (test n x) rest) ∙ ap (λ b. b || rest) (sym (a.at n))));
-    same = e ∙ f.same;
   }
 
-  flagging_whole : Whole old → Whole new
-  flagging_whole h = omega (arith, h, f.same)
-
-  -- A line outside the profile, and the end.
-  flagging_out : Whole old → FlagsLines test text false old new
-  flagging_out h = record { adds = λ t. absurd t; whole = flagging_whole h }
-
-  flagging_done : length text ≤ at → Whole old → FlagsLines test text true old new
-  flagging_done l h = record {
+  -- The end.
+  flagging_done : {inside : Bool} → (T inside → left ≡ []) → FlagsLines test text inside old new
+  flagging_done e = record {
     adds = λ t. record {
       at = λ n. sym (f.rest n ∙ (ap (λ m. flagged new n || any (test n) m)
-          (ap (lines_read top) (left_none text at l) ∙ lines_read_none) ∙ or-false (flagged new n)));
+          (ap (lines_read top) (e t) ∙ lines_read_none) ∙ or-false (flagged new n)));
     };
-    whole = flagging_whole h;
   }
 
--- The same of all three, with the place.
-pub record Judging (text : List ℕ) (at : ℕ) (literals₀ values₀ members₀ literals values members : List Bool) : Type 0 where
-  pub within : at ≤ length text
-  pub inside : all_inside top text ≡ all_inside top (drop at text)
-  pub literals_are : Flagging as_literal text at literals₀ literals
-  pub values_are : Flagging as_iri text at values₀ values
-  pub members_are : Flagging is_member text at members₀ members
+-- The same of all three.
+pub record Judging (text left : List ℕ) (before now : Seen) : Type 0 where
+  pub inside : all_inside top text ≡ all_inside top left
+  pub literals_are : Flagging as_literal text left before.literals now.literals
+  pub values_are : Flagging as_iri text left before.values now.values
+  pub members_are : Flagging is_member text left before.members now.members
 
-pub judging_start : (text : List ℕ) (literals values members : List Bool)
-    → Judging text 0 literals values members literals values members
-judging_start text literals values members = record {
-  within = omega arith;
+pub judging_start : (text : List ℕ) (seen : Seen) → Judging text text seen seen
+judging_start text seen = record {
   inside = refl;
-  literals_are = flagging_start as_literal text literals;
-  values_are = flagging_start as_iri text values;
-  members_are = flagging_start is_member text members;
+  literals_are = flagging_start as_literal text seen.literals;
+  values_are = flagging_start as_iri text seen.values;
+  members_are = flagging_start is_member text seen.members;
 }
 
-module _ {text : List ℕ} {at : ℕ} {literals₀ values₀ members₀ literals values members : List Bool}
-    (j : Judging text at literals₀ values₀ members₀ literals values members) where
-  pub judging_whole : Whole literals₀ × Whole values₀ × Whole members₀ → Whole literals × Whole values × Whole members
-  judging_whole h =
-      (flagging_whole j.literals_are h.0, flagging_whole j.values_are h.1, flagging_whole j.members_are h.2)
+module _ {text left : List ℕ} {before now : Seen} (j : Judging text left before now) where
+  pub judging_more : {w : ℕ} {literal : Bool} {next : List ℕ} → LineRead left w literal next → (newer : Seen)
+      → Adds now.literals newer.literals (λ n. as_literal n (word_line w literal))
+      → Adds now.values newer.values (λ n. as_iri n (word_line w literal))
+      → Adds now.members newer.members (λ n. is_member n (word_line w literal)) → Judging text next before newer
+  judging_more r newer a b c = record {
+    inside = j.inside ∙ line_inside r;
+    literals_are = flagging_more j.literals_are r a;
+    values_are = flagging_more j.values_are r b;
+    members_are = flagging_more j.members_are r c;
+  }
 
-  -- A line outside the profile, and the end.
-  pub judging_out : false ≡ all_inside top (drop at text) → Whole literals₀ × Whole values₀ × Whole members₀
-      → (false ≡ all_inside top text) × (FlagsLines as_literal text false literals₀ literals
-      × (FlagsLines as_iri text false values₀ values × FlagsLines is_member text false members₀ members))
-  judging_out e h = (
-    e ∙ sym j.inside,
-    (
-      flagging_out j.literals_are h.0,
-      (flagging_out j.values_are h.1, flagging_out j.members_are h.2),
-    ),
-  )
+  -- No line stands there: the end, or a line outside the profile.
+  module _ (n : NoLine left) {b : Bool} (e : b ≡ eqb (length left) 0) where
+    pub judged : b ≡ all_inside top text
+    judged = is_end n e ∙ sym j.inside
 
-  pub judging_done : length text ≤ at → Whole literals₀ × Whole values₀ × Whole members₀
-      → (true ≡ all_inside top text) × (FlagsLines as_literal text true literals₀ literals
-      × (FlagsLines as_iri text true values₀ values × FlagsLines is_member text true members₀ members))
-  judging_done l h = (
-    sym (j.inside ∙ (ap (all_inside top) (left_none text at l) ∙ inside_none)),
-    (
-      flagging_done j.literals_are l h.0,
-      (flagging_done j.values_are l h.1, flagging_done j.members_are l h.2),
-    ),
-  )
+    ended : T b → left ≡ []
+    ended t = at_end n (subst T (is_end n e) t)
+
+    pub judged_literals : FlagsLines as_literal text b before.literals now.literals
+    judged_literals = flagging_done j.literals_are ended
+
+    pub judged_values : FlagsLines as_iri text b before.values now.values
+    judged_values = flagging_done j.values_are ended
+
+    pub judged_members : FlagsLines is_member text b before.members now.members
+    judged_members = flagging_done j.members_are ended

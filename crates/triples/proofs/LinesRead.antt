@@ -5,14 +5,15 @@ use mathlib.Core.Logic.{⊎_elim}
 use mathlib.Core.List.{List, [], ◌∷◌, ◌++◌, append_assoc, map}
 use native.Mathlib.Omega.{arith}
 use lib.Dec.{T}
+use Rattle.std.proofs.Common.{Option}
 use Rattle.rdfs.specs.Numbers.{product}
 use Rattle.rdfs.specs.Lists.{◌∈◌, here, there, concat_map}
 use Rattle.rdfs.proofs.Lists.ListLaws.{in_one, in_append, in_concat_map, concat_map_in}
-use Rattle.terms.specs.Terms.{bytes, spelt, Proper}
+use Rattle.terms.specs.Terms.{bytes, spelling, ProperSome}
 use Rattle.terms.specs.Terms.{ended}
 use Rattle.triple_form.specs.Lines.{Line, subject, predicate, object, line_of, in_profile}
 use Rattle.terms.specs.declared.term.Term.{Term}
-use Rattle.terms.proofs.Spelling.{spelt_free}
+use Rattle.terms.proofs.Spelling.{spelling_free}
 use Rattle.triple_form.proofs.LineLaws.{line_known}
 use Rattle.triples.specs.Texts.{text_of_lines}
 use Rattle.triples.specs.TextRead.{cut_after, line_read, lines_read}
@@ -23,33 +24,33 @@ abbrev pub top : ℕ
 top = product.top
 
 -- A line is a run without a newline, then a newline.
-abbrev unended : Term → Term → Term → List ℕ
-unended s p o = ended (spelt s) ++ (ended (spelt p) ++ (ended (spelt o) ++ (46 ∷ [])))
+abbrev unended : Option Term → Option Term → Option Term → List ℕ
+unended s p o = ended (spelling s) ++ (ended (spelling p) ++ (ended (spelling o) ++ (46 ∷ [])))
 
 line_ended : (s p o : List ℕ) → ended s ++ (ended p ++ (ended o ++ bytes ".\n"))
     ≡ (ended s ++ (ended p ++ (ended o ++ (46 ∷ [])))) ++ (10 ∷ [])
 line_ended s p o = simp append_assoc
 
-ended_free : (t : Term) → Proper top t → Free 10 (ended (spelt t))
-ended_free t h x m e = ⊎_elim (λ k. (spelt_free t h x k).1 e) (λ k. omega (arith, in_one k, e)) (in_append (spelt t) m)
+ended_free : (t : Option Term) → ProperSome top t → Free 10 (ended (spelling t))
+ended_free t h x m e = ⊎_elim (λ k. (spelling_free t h x k).1 e) (λ k. omega (arith, in_one k, e)) (in_append (spelling t) m)
 
 append_free : (end : ℕ) (l m : List ℕ) → Free end l → Free end m → Free end (l ++ m)
 append_free end l m f g x h e = ⊎_elim (λ k. f x k e) (λ k. g x k e) (in_append l h)
 
-unended_free : (s p o : Term) → Proper top s → Proper top p → Proper top o → Free 10 (unended s p o)
+unended_free : (s p o : Option Term) → ProperSome top s → ProperSome top p → ProperSome top o → Free 10 (unended s p o)
 unended_free s p o a b c =
-    append_free 10 (ended (spelt s)) (ended (spelt p) ++ (ended (spelt o) ++ (46 ∷ []))) (ended_free s a)
-    (append_free 10 (ended (spelt p)) (ended (spelt o) ++ (46 ∷ [])) (ended_free p b)
-    (append_free 10 (ended (spelt o)) (46 ∷ []) (ended_free o c) (λ x h e. omega (arith, in_one h, e))))
+    append_free 10 (ended (spelling s)) (ended (spelling p) ++ (ended (spelling o) ++ (46 ∷ []))) (ended_free s a)
+    (append_free 10 (ended (spelling p)) (ended (spelling o) ++ (46 ∷ [])) (ended_free p b)
+    (append_free 10 (ended (spelling o)) (46 ∷ []) (ended_free o c) (λ x h e. omega (arith, in_one h, e))))
 
 pub cut_line : (x : Line) (rest : List ℕ) → T (in_profile top x) → cut_after 10 (line_of x ++ rest) ≡ line_of x ∷ cut_after 10 rest
 unfolding line_of
 cut_line x rest h =
     let known = line_known x h in
-    let s : Term = subject x.fact in
-    let p : Term = predicate x.fact in
-    let o : Term = object x.literal x.fact in
-    let whole : line_of x ≡ unended s p o ++ (10 ∷ []) = line_ended (spelt s) (spelt p) (spelt o) in
+    let s : Option Term = subject x.fact in
+    let p : Option Term = predicate x.fact in
+    let o : Option Term = object x.literal x.fact in
+    let whole : line_of x ≡ unended s p o ++ (10 ∷ []) = line_ended (spelling s) (spelling p) (spelling o) in
     ap (λ l. cut_after 10 (l ++ rest)) whole
     ∙ (cut_ended 10 (unended s p o) rest (unended_free s p o known.0 known.1 known.2)
     ∙ ap (λ l. l ∷ cut_after 10 rest) (sym whole))

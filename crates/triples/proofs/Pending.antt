@@ -2,9 +2,10 @@
 -- nothing.
 use Prim.Native.Nat.{ℕ, ◌+◌, ◌<◌}
 use mathlib.Core.Path.{◌≡◌, refl, sym, ap, subst, ◌∙◌}
-use mathlib.Core.List.{List, [], ◌∷◌, ◌++◌}
+use mathlib.Core.List.{List, [], ◌∷◌, ◌++◌, append-nil}
 use native.Mathlib.Omega.{arith}
 use lib.Dec.{T}
+use Rattle.std.proofs.Common.{Option, None, Some}
 use lib.ListN.{length}
 use Rattle.rdfs.specs.Numbers.{product}
 use Rattle.rdfs.specs.Words.{is_fact, filled}
@@ -16,22 +17,12 @@ use Rattle.table.specs.declared.room.Stored.{Stored}
 use Rattle.table.specs.declared.room.Stored.TheVariants.{There, Added, NoRoom}
 use Rattle.table.proofs.StoredWord.{stored_table, stored_length, stored_words}
 use Rattle.triples.specs.Storing.{put_all, Grown, Stores}
-use Rattle.triples.specs.declared.reader.Filled.{Filled}
-use Rattle.triples.specs.declared.reader.Filled.TheVariants.{To, Full}
 use Rattle.triples.proofs.PutAll.{put_there, put_all_append, put_all_longer}
-
--- What storing words answered.
-module _ (before new after : List ℕ) where
-  pub stores_to : (r : Filled) {count : ℕ} → r ≡ To count → Stores before new after r → Grown before new after count
-  stores_to r e s = subst (Stores before new after) e s
-
-  pub stores_full : (r : Filled) → r ≡ Full → Stores before new after r → length before < length (put_all new (filled before))
-  stores_full r e s = (subst (Stores before new after) e s).0
 
 -- One word, by what `store` answered.
 module _ (t : List ℕ) {n : ℕ} (w : ℕ) (c : Counted t n) (is : T (is_fact product w)) (after : List ℕ) {r : Stored}
     (m : StoreMeans t w after r) where
-  pub one_there : r ≡ There → Stores t (w ∷ []) after (To n)
+  pub one_there : r ≡ There → Stores t (w ∷ []) after (Some n)
   one_there e =
       let p = subst (StoreMeans t w after) e m in
       subst (λ l. Grown t (w ∷ []) l n) (sym p.1) (record {
@@ -43,7 +34,7 @@ module _ (t : List ℕ) {n : ℕ} (w : ℕ) (c : Counted t n) (is : T (is_fact p
   pub one_room : r ≡ Added → n < length t
   one_room e = let p = subst (StoreMeans t w after) e m in omega (arith, p.room, c.size)
 
-  pub one_added : r ≡ Added → Stores t (w ∷ []) after (To (n + 1))
+  pub one_added : r ≡ Added → Stores t (w ∷ []) after (Some (n + 1))
   one_added e =
       let p = subst (StoreMeans t w after) e m in
       let room : n < length t = one_room e in
@@ -53,7 +44,7 @@ module _ (t : List ℕ) {n : ℕ} (w : ℕ) (c : Counted t n) (is : T (is_fact p
         words_are = stored_words t n c w p.new is room;
       })
 
-  pub one_full : r ≡ NoRoom → Stores t (w ∷ []) after Full
+  pub one_full : r ≡ NoRoom → Stores t (w ∷ []) after None
   one_full e =
       let p = subst (StoreMeans t w after) e m in
       (omega (arith, p.full, put_longer w (filled t) p.new), ap length p.words)
@@ -96,3 +87,9 @@ module _ {before all table : List ℕ} {count : ℕ} (new left : List ℕ) (p : 
 
 pub pending_done : {before all table : List ℕ} {count : ℕ} → Pending before all [] table count → Grown before all table count
 pending_done p = record { counted = p.counted; size = p.size; words_are = sym p.same }
+
+-- The last of them are stored, or have no room.
+pub pending_stored : {before all table : List ℕ} {count : ℕ} (new after : List ℕ) → Pending before all new table count
+    → (r : Option ℕ) → Stores table new after r → Stores before all after r
+pending_stored new after p (Some total) g = pending_done (pending_more new [] (pending_as (sym (append-nil new)) p) g)
+pending_stored new after p None h = (pending_full new [] (pending_as (sym (append-nil new)) p) h.0, h.1 ∙ p.size)

@@ -2,7 +2,7 @@
 use Prim.Native.Nat.{ℕ}
 use mathlib.Core.Path.{◌≡◌, sym, ap, ◌∙◌}
 use mathlib.Core.Bool.{Bool, true, false, not, ◌||◌, cond, or-true}
-use mathlib.Core.List.{List}
+use mathlib.Core.List.{List, []}
 use native.Mathlib.Omega.{arith}
 use lib.Dec.{ltb}
 use lib.ListN.{length}
@@ -15,10 +15,13 @@ use Rattle.flags.proofs.Added.{adds_none}
 use Rattle.triple_form.specs.Lines.{Line}
 use Rattle.triples.specs.TextRead.{lines_read, all_inside, as_literal, as_iri, is_member, told_twice, text_words}
 use Rattle.triples.specs.ReadTriples.{text_refusal}
-use Rattle.triples.specs.Storing.{ids, common, FlagsLines, StoresText}
+use Rattle.triples.specs.Storing.{ids, common, FlagsLines, Stores, put_all, text_puts}
 use Rattle.triples.proofs.LinesRead.{top}
 use Rattle.triples.proofs.ToldTwice.{told_twice_common}
 use Rattle.triples.proofs.TextPuts.{puts_words}
+use Rattle.triples.proofs.TextStored.{no_room, had_room, stored_words}
+use Rattle.table.specs.Counted.{Counted}
+use Rattle.std.proofs.Common.{None, Some}
 
 -- The flags of a text whose lines are inside the profile say which ids its lines have.
 pub flags_say : {test : ℕ → Line → Bool} {text : List ℕ} {r : Bool} {old new : List Bool} → r ≡ true → Says old none
@@ -49,14 +52,21 @@ module _ (text : List ℕ) (room : ℕ) where
         ∙ ap (λ t. or_else t 15 (or_else many 11 0)) (told_twice_is e q)
 
 -- What storing the words of a text leaves.
-module _ {t text : List ℕ} {members literals : List Bool}
+module _ {t : List ℕ} (text : List ℕ) (empty : Counted t 0) {members literals values : List Bool}
     (m : Says members (λ n. any (is_member n) (lines_read top text)))
     (a : Says literals (λ n. any (as_literal n) (lines_read top text)))
-    {answer : ℕ} {after : List ℕ} (s : StoresText t members literals text answer after) where
-  pub stored_answer : {values : List Bool} → Says values (λ n. any (as_iri n) (lines_read top text)) → all_inside top text ≡ true
-      → {r : Bool} → r ≡ any (common literals values) ids → r ≡ false → answer ≡ text_refusal text (length t)
-  stored_answer b i e q = s.refusal ∙ (ap (λ l. or_else (ltb (length t) (length l)) 11 0) (puts_words text m a)
+    (b : Says values (λ n. any (as_iri n) (lines_read top text))) (i : all_inside top text ≡ true) {r : Bool}
+    (e : r ≡ any (common literals values) ids) (q : r ≡ false) where
+  answers : {full : Bool} → ltb (length t) (length (put_all (text_puts members literals text) [])) ≡ full → or_else full 11 0 ≡ text_refusal text (length t)
+  answers h = ap (λ f. or_else f 11 0) (sym h) ∙ (ap (λ l. or_else (ltb (length t) (length l)) 11 0) (puts_words text m a)
       ∙ sym (fill_inside text (length t) a b i e q))
 
-  pub stored_words : answer ≡ 0 → after ≡ padded (length t) (text_words product text)
-  stored_words z = s.words_are z ∙ ap (padded (length t)) (puts_words text m a)
+  pub filled_none : (after : List ℕ) → Stores t (text_puts members literals text) after None → 11 ≡ text_refusal text (length t)
+  filled_none after s = answers (no_room empty (text_puts members literals text) s.0)
+
+  module _ {after : List ℕ} {n : ℕ} (s : Stores t (text_puts members literals text) after (Some n)) where
+    pub filled_answer : 0 ≡ text_refusal text (length t)
+    filled_answer = answers (had_room empty (text_puts members literals text) s)
+
+    pub filled_words : after ≡ padded (length t) (text_words product text)
+    filled_words = stored_words empty (text_puts members literals text) s ∙ ap (padded (length t)) (puts_words text m a)

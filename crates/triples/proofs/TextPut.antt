@@ -64,7 +64,10 @@ pub record Stands (t : List ℕ) (literals : List Bool) (out₀ out : List ℕ) 
   pub passed : Passed t literals i at
   pub laid : Overlaid (text_of (facts_of t)) out₀ out at
 
-module _ {t : List ℕ} {n : ℕ} {literals : List Bool} (s : Telling t n literals) where
+module _ {t : List ℕ} {literals : List Bool} (s : Telling t literals) where
+  abbrev n : ℕ
+  n = length t
+
   abbrev text : List ℕ
   text = text_of (facts_of t)
 
@@ -88,8 +91,8 @@ module _ {t : List ℕ} {n : ℕ} {literals : List Bool} (s : Telling t n litera
       split : drop at text ≡ new ++ later
       split =
           let next : drop i (filled t) ≡ get_or t i 0 ∷ drop (i + 1) (filled t) =
-          drop-cons (filled t) i 0 (omega (arith, h, s.counted.size)) ∙ (ap (λ w. w ∷ drop (suc i) (filled t))
-          (counted_at s.counted i h) ∙ ap (λ m. get_or t i 0 ∷ drop m (filled t)) (sym (add-one i))) in
+          drop-cons (filled t) i 0 (omega (arith, h, s.full.size)) ∙ (ap (λ w. w ∷ drop (suc i) (filled t))
+          (counted_at s.full i h) ∙ ap (λ m. get_or t i 0 ∷ drop m (filled t)) (sym (add-one i))) in
           p.rest ∙ ap (concat_map (word_text literals)) next
 
       pub passed_fits : at + length new ≤ length text
@@ -104,7 +107,7 @@ module _ {t : List ℕ} {n : ℕ} {literals : List Bool} (s : Telling t n litera
 
     pub passed_all : n ≤ i → at ≡ length text
     passed_all h =
-        let none : drop i (filled t) ≡ [] = drop_of_length-le (filled t) {i = i} (omega (arith, h, s.counted.size)) in
+        let none : drop i (filled t) ≡ [] = drop_of_length-le (filled t) {i = i} (omega (arith, h, s.full.size)) in
         omega (arith, p.within, length-drop at text, ap length (p.rest ∙ ap (concat_map (word_text literals)) none))
 
   module _ {out₀ out : List ℕ} {i at : ℕ} (e : Stands t literals out₀ out i at) where
@@ -137,13 +140,12 @@ parts_short each (w ∷ l) h = omega (
   parts_short each l (λ v i. h v (there i)),
 )
 
-pub text_short : {t : List ℕ} {n : ℕ} {literals : List Bool} → Telling t n literals
-    → length (text_of (facts_of t)) ≤ 154 * product.most
+pub text_short : {t : List ℕ} {literals : List Bool} → Telling t literals → length (text_of (facts_of t)) ≤ 154 * product.most
 text_short {t} {literals = literals} s = omega (
   arith,
   ap length (passed_start s).rest,
   parts_short (word_text literals) (filled t) (λ w i. word_text_short literals w (laid_is_fact product t
-      s.consistent.laid w i)),
-  filled_within product t s.consistent.laid,
-  s.consistent.fits,
+      s.full.laid w i)),
+  filled_within product t s.full.laid,
+  s.fits,
 )

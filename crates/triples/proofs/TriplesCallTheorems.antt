@@ -8,6 +8,7 @@ use mathlib.Core.List.{List}
 use native.Mathlib.Omega.{arith}
 use native.Mathlib.Decide.{ℕ_discrete}
 use lib.Dec.{ltb}
+use Rattle.std.proofs.Common.{Result}
 use lib.ListN.{length, take}
 use Rattle.rdfs.specs.Numbers.{product}
 use Rattle.rdfs.specs.Lists.{◌⊆◌, any}
@@ -16,43 +17,44 @@ use Rattle.rdfs.specs.Refusals.{or_else, bad_size, bad_layout, inconsistent}
 use Rattle.rdfs.specs.Register.{Table}
 use Rattle.triples.specs.TextRead.{cut_after, outside_profile, text_words}
 use Rattle.triples.specs.Lone.{is_lone, without_lone, ReadsAs}
-use Rattle.triples.specs.WriteTriples.{table_text, write_triples_length, WriteTriplesPromise}
+use Rattle.triples.specs.WriteTriples.{table_text, write_triples_length, length_of, WriteTriplesPromise}
 use Rattle.triples.specs.ReadTriples.{read_triples_answer, read_triples_words, ReadTriplesPromise}
-use Rattle.triples.specs.declared.Text.{Text}
+use Rattle.table.specs.Refused.{answer_of}
+use Rattle.table.specs.declared.refusals.Refusal.{Refusal}
 use Rattle.triples.proofs.Written.{table_words, no_lone_same}
 use Rattle.triples.proofs.WriteAnswer.{written_parts, written_taken, written_length, written_refused}
 use Rattle.triples.proofs.ReadAnswer.{read_keeps}
 use Rattle.triples.proofs.AnyOrder.{any_order_answer, any_order_words}
 use Rattle.triples.proofs.TriplesTheorems.{text_in_profile, text_reads, text_short, reads_as_sound, reads_as_complete}
 
-module _ (t output : List ℕ) (w : Text) (out : List ℕ) (p : WriteTriplesPromise t output w out) where
+module _ (t output : List ℕ) (w : Result ℕ Refusal) (out : List ℕ) (p : WriteTriplesPromise t output w out) where
   -- The answer is the first of 1, 2, 3, 13 whose condition holds, or 0.
-  pub write_triples_order : w.answer ≡ or_else (bad_size product t) 1 (or_else (bad_layout product t) 2
+  pub write_triples_order : answer_of w ≡ or_else (bad_size product t) 1 (or_else (bad_layout product t) 2
       (or_else (inconsistent product t) 3 (or_else (ltb (length output) (length (table_text t))) 13 0)))
   write_triples_order = p.answer_is
 
   -- Refused, the length is 0 and every byte is as it was.
-  pub write_triples_refusal_keeps : (w.answer ≡ 0 → ⊥) → (w.length ≡ 0) × (out ≡ output)
+  pub write_triples_refusal_keeps : (answer_of w ≡ 0 → ⊥) → (length_of w ≡ 0) × (out ≡ output)
   write_triples_refusal_keeps h =
       let k = written_refused t output (λ z. h (p.answer_is ∙ z)) in
       (p.length_is ∙ k.0, p.bytes_are ∙ k.1)
 
   -- Accepted: the table is consistent, and the bytes, cut to the length answered, are its text.
-  accepted_table : w.answer ≡ 0 → Table product t
+  accepted_table : answer_of w ≡ 0 → Table product t
   accepted_table z = (written_parts t output (sym p.answer_is ∙ z)).0
 
-  saved : w.answer ≡ 0 → take w.length out ≡ table_text t
+  saved : answer_of w ≡ 0 → take (length_of w) out ≡ table_text t
   saved z =
-      let cut : take w.length out ≡ take (write_triples_length t output) out = ap (λ n. take n out) p.length_is in
+      let cut : take (length_of w) out ≡ take (write_triples_length t output) out = ap (λ n. take n out) p.length_is in
       cut ∙ (ap (take (write_triples_length t output)) p.bytes_are ∙ written_taken t output (sym p.answer_is ∙ z))
 
   -- A text that was written is inside the profile.
-  pub write_triples_in_profile : w.answer ≡ 0 → outside_profile product.top (take w.length out) ≡ false
+  pub write_triples_in_profile : answer_of w ≡ 0 → outside_profile product.top (take (length_of w) out) ≡ false
   write_triples_in_profile z = ap (outside_profile product.top) (saved z) ∙ text_in_profile t (accepted_table z)
 
   -- It is read into any table that has room, of any allowed length: answer 0, the facts but for lone literals, then zeros.
-  pub write_triples_drops_lone : w.answer ≡ 0 → (u : List ℕ) (r : ℕ) (v : List ℕ)
-      → ReadTriplesPromise u (take w.length out) r v → bad_size product u ≡ false
+  pub write_triples_drops_lone : answer_of w ≡ 0 → (u : List ℕ) (r : ℕ) (v : List ℕ)
+      → ReadTriplesPromise u (take (length_of w) out) r v → bad_size product u ≡ false
       → length (words product (without_lone (facts product t))) ≤ length u
       → (r ≡ 0) × (v ≡ padded (length u) (words product (without_lone (facts product t))))
   write_triples_drops_lone z u r v q size room =
@@ -62,8 +64,8 @@ module _ (t output : List ℕ) (w : Text) (out : List ℕ) (p : WriteTriplesProm
       )
 
   -- Where no literal is lone, all the facts.
-  pub write_triples_reads_back : w.answer ≡ 0 → any (is_lone (facts product t)) (facts product t) ≡ false
-      → (u : List ℕ) (r : ℕ) (v : List ℕ) → ReadTriplesPromise u (take w.length out) r v → bad_size product u ≡ false
+  pub write_triples_reads_back : answer_of w ≡ 0 → any (is_lone (facts product t)) (facts product t) ≡ false
+      → (u : List ℕ) (r : ℕ) (v : List ℕ) → ReadTriplesPromise u (take (length_of w) out) r v → bad_size product u ≡ false
       → length (filled t) ≤ length u → (r ≡ 0) × (v ≡ padded (length u) (filled t))
   write_triples_reads_back z n u r v q size room =
       let same : words product (without_lone (facts product t)) ≡ filled t =
@@ -72,8 +74,8 @@ module _ (t output : List ℕ) (w : Text) (out : List ℕ) (p : WriteTriplesProm
       (back.0, back.1 ∙ ap (padded (length u)) same)
 
   -- A text has at most 154 bytes for each fact.
-  pub write_triples_short : w.length ≤ 154 * length (filled t)
-  write_triples_short = elim (ℕ_discrete w.answer 0) [
+  pub write_triples_short : length_of w ≤ 154 * length (filled t)
+  write_triples_short = elim (ℕ_discrete (answer_of w) 0) [
     | yes z ↦ omega (
       arith,
       p.length_is,

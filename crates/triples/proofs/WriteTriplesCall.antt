@@ -2,8 +2,12 @@
 use Prim.Native.Nat.{ℕ, ◌≤◌, ◌<◌}
 use mathlib.Core.Path.{◌≡◌, sym, ap, ◌∙◌}
 use mathlib.Core.List.{List, ◌++◌}
-use native.Mathlib.Omega.{arith}
 use lib.Dec.{ltb}
+use Rattle.std.proofs.Common.{Ok, Err}
+use Rattle.table.specs.Refused.{number}
+use Rattle.table.specs.declared.refusals.Refusal.{Refusal}
+use Rattle.table.specs.declared.refusals.Refusal.TheVariants.{ShortOutput}
+use Rattle.triples.proofs.Numbered.{number_some}
 use lib.ListN.{length, drop}
 use borrow.Author.Tests.{lt-ltb, le-ltb}
 use Rattle.rdfs.specs.Numbers.{product}
@@ -17,10 +21,9 @@ module _ (t out : List ℕ) where
   abbrev text : List ℕ
   text = table_text t
 
-  refused : (n : ℕ) → n ≡ write_triples_answer t out → (n ≡ 0 → ⊥)
-      → WriteTriplesPromise t out (record { answer = n; length = 0 }) out
-  refused n e h =
-      let k = written_refused t out (λ z. h (e ∙ z)) in
+  refused : (r : Refusal) → number r ≡ write_triples_answer t out → WriteTriplesPromise t out (Err r) out
+  refused r e =
+      let k = written_refused t out (λ z. number_some r (e ∙ z)) in
       record { answer_is = e; length_is = sym k.0; bytes_are = sym k.1 }
 
   -- 13, or 0.
@@ -28,18 +31,17 @@ module _ (t out : List ℕ) where
   last = or_else (ltb (length out) (length text)) 13 0
 
   -- 1, 2 and 3.
-  pub write_refused : (r : ℕ) → r ≡ table_refusal product t 0 → (r ≡ 0 → ⊥)
-      → WriteTriplesPromise t out (record { answer = r; length = 0 }) out
-  write_refused r e h = refused r (e ∙ table_stops product t last (λ z. h (e ∙ z))) h
+  pub write_refused : (r : Refusal) → number r ≡ table_refusal product t 0 → WriteTriplesPromise t out (Err r) out
+  write_refused r e = refused r (e ∙ table_stops product t last (λ z. number_some r (e ∙ z)))
 
   module _ (consistent : Table product t) where
     -- 13.
-    pub write_short : length out < length text → WriteTriplesPromise t out (record { answer = 13; length = 0 }) out
-    write_short h = refused 13 (sym (table_passes product t consistent last
-        ∙ ap (λ b. or_else b 13 0) (lt-ltb (length out) (length text) h))) (omega arith)
+    pub write_short : length out < length text → WriteTriplesPromise t out (Err ShortOutput) out
+    write_short h = refused ShortOutput (sym (table_passes product t consistent last
+        ∙ ap (λ b. or_else b 13 0) (lt-ltb (length out) (length text) h)))
 
     pub write_done : length text ≤ length out → (size : ℕ) → size ≡ length text → (out' : List ℕ)
-        → out' ≡ text ++ drop (length text) out → WriteTriplesPromise t out (record { answer = 0; length = size }) out'
+        → out' ≡ text ++ drop (length text) out → WriteTriplesPromise t out (Ok size) out'
     write_done h size s out' q =
         let zero-answer : write_triples_answer t out ≡ 0 =
         table_passes product t consistent last ∙ ap (λ b. or_else b 13 0) (le-ltb (length out) (length text) h) in

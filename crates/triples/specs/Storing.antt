@@ -1,16 +1,13 @@
 -- What the steps of reading a text find and leave.
-use Rattle.std.specs.Prelude.{ℕ, zero, suc, ◌<◌, ◌≡◌, Bool, false, ◌&&◌, List, [], ◌∷◌, ◌++◌, map, T, ltb, length}
+use Rattle.std.specs.Prelude.{ℕ, zero, suc, ◌<◌, ◌≡◌, Bool, false, ◌&&◌, List, [], ◌∷◌, ◌++◌, map, T, length, Option, None, Some}
 use Rattle.rdfs.specs.Numbers.{product, arity}
 use Rattle.rdfs.specs.Lists.{filter, any}
-use Rattle.rdfs.specs.Words.{filled, word, put, padded}
-use Rattle.rdfs.specs.Refusals.{or_else}
+use Rattle.rdfs.specs.Words.{filled, word, put}
 use Rattle.table.specs.Counted.{Counted}
 use Rattle.table.specs.Parts.{word_of}
-use Rattle.flags.specs.Flags.{flagged, Whole, Adds}
+use Rattle.flags.specs.Flags.{flagged, Adds}
 use Rattle.triple_form.specs.Lines.{Line}
 use Rattle.triples.specs.TextRead.{lines_read}
-use Rattle.triples.specs.declared.reader.Filled.{Filled}
-use Rattle.triples.specs.declared.reader.Filled.TheVariants.{To, Full}
 
 -- Words put into an ascending list one after another.
 abbrev pub put_all : List ℕ → List ℕ → List ℕ
@@ -23,10 +20,10 @@ pub record Grown (before : List ℕ) (new after : List ℕ) (count : ℕ) : Type
   pub size : length after ≡ length before
   pub words_are : filled after ≡ put_all new (filled before)
 
--- Words stored in a table: all of them, or they have no room.
-abbrev pub Stores : List ℕ → List ℕ → List ℕ → Filled → Type 0
-Stores before new after (To count) = Grown before new after count
-Stores before new after Full =
+-- Words stored in a table: all of them, and how many facts it has now, or they have no room.
+abbrev pub Stores : List ℕ → List ℕ → List ℕ → Option ℕ → Type 0
+Stores before new after (Some count) = Grown before new after count
+Stores before new after None =
     (length before < length (put_all new (filled before))) × (length after ≡ length before)
 
 -- n numbers from i on, and the ids.
@@ -45,18 +42,16 @@ common flags others n = flagged flags n && flagged others n
 abbrev pub flagged_from : ℕ → List Bool → List ℕ → List ℕ
 flagged_from k flags l = map (λ n. word_of k n 0 0) (filter (flagged flags) l)
 
--- A flag for each id, for facts of a kind with one id; the mark is not flagged.
+-- Flags for facts of a kind with one id; the mark is not flagged.
 pub record Flagged (k : ℕ) (flags : List Bool) : Type 0 where
-  pub whole : Whole flags
   pub kind : arity k ≡ 1
   pub no_mark : flagged flags 1 ≡ false
 
 -- If each line of a text is inside the profile, flags are added for the ids that its lines have, by a test of
--- an id and a line. In any case there is a flag for each id.
+-- an id and a line.
 pub record FlagsLines (test : ℕ → Line → Bool) (text : List ℕ) (inside : Bool) (old new : List Bool) : Type 0
   where
     pub adds : T inside → Adds old new (λ n. any (test n) (lines_read product.top text))
-    pub whole : Whole new
 
 -- The words of the lines of a text.
 abbrev pub line_words : List ℕ → List ℕ
@@ -64,11 +59,3 @@ line_words text = map (λ x. word product.base x.fact) (lines_read product.top t
 
 abbrev pub text_puts : List Bool → List Bool → List ℕ → List ℕ
 text_puts members literals text = flagged_from 3 members ids ++ (flagged_from 4 literals ids ++ line_words text)
-
--- The words of a text's members, literals and lines are stored; 11 if they have no room.
-pub record StoresText (before : List ℕ) (members literals : List Bool) (text : List ℕ) (answer : ℕ)
-    (after : List ℕ) : Type 0 where
-  pub refusal : answer ≡ or_else (ltb (length before) (length (put_all (text_puts members literals text) [])))
-      11 0
-  pub words_are : answer ≡ 0 → after ≡ padded (length before) (put_all (text_puts members literals text) [])
-  pub size : length after ≡ length before

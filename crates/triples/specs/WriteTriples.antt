@@ -1,10 +1,11 @@
 -- What `write_triples` answers and leaves, for all words of a table and all bytes.
-use Rattle.std.specs.Prelude.{ℕ, ◌≡◌, Bool, cond, List, [], ◌∷◌, ◌++◌, eqb, ltb, length, drop}
+use Rattle.std.specs.Prelude.{ℕ, ◌≡◌, Bool, cond, List, [], ◌∷◌, ◌++◌, eqb, ltb, length, drop, Result, Ok, Err}
 use Rattle.rdfs.specs.Numbers.{product}
 use Rattle.rdfs.specs.Words.{facts}
 use Rattle.rdfs.specs.Refusals.{first_true, table_refusal}
 use Rattle.triples.specs.Texts.{text_of}
-use Rattle.triples.specs.declared.Text.{Text}
+use Rattle.table.specs.Refused.{answer_of}
+use Rattle.table.specs.declared.refusals.Refusal.{Refusal}
 
 -- The text of a table's facts.
 abbrev pub table_text : List ℕ → List ℕ
@@ -30,8 +31,13 @@ write_triples_bytes table output =
     cond (eqb (write_triples_answer table output) 0)
     (table_text table ++ drop (length (table_text table)) output) output
 
+-- The length that a call answers; 0 on refusal.
+abbrev pub length_of : Result ℕ Refusal → ℕ
+length_of (Ok length) = length
+length_of (Err refusal) = 0
+
 -- The promise of writing, for all words of a table and all bytes of an output.
-pub record WriteTriplesPromise (table output : List ℕ) (written : Text) (left : List ℕ) : Type 0 where
-  pub answer_is : written.answer ≡ write_triples_answer table output
-  pub length_is : written.length ≡ write_triples_length table output
+pub record WriteTriplesPromise (table output : List ℕ) (written : Result ℕ Refusal) (left : List ℕ) : Type 0 where
+  pub answer_is : answer_of written ≡ write_triples_answer table output
+  pub length_is : length_of written ≡ write_triples_length table output
   pub bytes_are : left ≡ write_triples_bytes table output

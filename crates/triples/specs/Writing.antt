@@ -1,10 +1,9 @@
 -- What the steps of writing a text find and leave.
-use Rattle.std.specs.Prelude.{ℕ, Bool, ◌&&◌, cond, List, [], eqb}
+use Rattle.std.specs.Prelude.{ℕ, ◌≤◌, Bool, ◌&&◌, cond, List, [], eqb, length}
 use Rattle.rdfs.specs.Numbers.{product}
 use Rattle.rdfs.specs.Facts.{Fact, lit, kind, second, has}
-use Rattle.rdfs.specs.Register.{Table}
-use Rattle.table.specs.Counted.{Counted, facts_of}
-use Rattle.flags.specs.Flags.{flagged, Whole, Says}
+use Rattle.table.specs.Counted.{Full, facts_of}
+use Rattle.flags.specs.Flags.{flagged, Says}
 use Rattle.triple_form.specs.Lines.{has_line, line_of}
 
 -- By the flags of the literals: whether the object of a fact's line is one, and the line, or nothing.
@@ -14,9 +13,8 @@ literal_by literals f = eqb (kind f) 10 && flagged literals (second f)
 abbrev pub text_by : List Bool → Fact → List ℕ
 text_by literals f = cond (has_line f) (line_of (record { fact = f; literal = literal_by literals f })) []
 
--- A table that can be written as a text, with a flag for each literal.
-pub record Telling (table : List ℕ) (count : ℕ) (literals : List Bool) : Type 0 where
-  pub consistent : Table product table
-  pub counted : Counted table count
-  pub whole : Whole literals
-  pub flags : Says literals (λ x. has (facts_of table) (lit x))
+-- Facts that can be written as a text, with a flag for each literal.
+pub record Telling (facts : List ℕ) (literals : List Bool) : Type 0 where
+  pub full : Full facts
+  pub fits : length facts ≤ product.most
+  pub flags : Says literals (λ x. has (facts_of facts) (lit x))

@@ -18,7 +18,7 @@ use Rattle.table.specs.Counted.{facts_of}
 use Rattle.table.proofs.Zeros.{drop_zeros}
 use Rattle.contents.specs.ImageForm.{image_form}
 use Rattle.contents.specs.Reading.{malformed}
-use Rattle.contents.specs.WithinBytes.{HasContents}
+use Rattle.contents.specs.Contents.{Contents}
 use Rattle.contents.proofs.Product.{well_contents}
 use Rattle.contents.proofs.ImageForms.{image_legible}
 use Rattle.contents.proofs.RoundTrip.{read_well}
@@ -50,11 +50,8 @@ module _ (image : List ℕ) (e : read_answer room image ≡ 3) where
       × (or_else (inconsistent product words) 3 0 ≡ 3)
   judged = read_judged room image 3 (omega arith) (omega arith) (sym e)
 
-  pub refused_contents : HasContents (image_form image) image
-  refused_contents = record {
-    form = image_legible image;
-    right = well_contents (image_form image) (image_legible image).proper image judged.1;
-  }
+  pub refused_contents : Contents (image_form image) image
+  refused_contents = well_contents (image_form image) (image_legible image).proper image judged.1
 
   pub refused_inconsistent : T (is_consistent (facts product words)) → ⊥
   refused_inconsistent = third_breaks (is_consistent (facts product words)) judged.3

@@ -1,8 +1,9 @@
 // An image turned into the text of its graph, and a text into the image of its graph.
 ghost use Rattle.vimelosa.specs.HostTriples.{HostWriteTriplesPromise, HostReadTriplesPromise};
 
-use exchange::{to_image, to_text};
+use exchange::{Rejected, to_image, to_text};
 use packing::{pack, pack_text};
+use table::Refusal;
 
 // Reads the image into 2,048 words and writes their text. Answers 0 or the refusal, and above it the text's
 // length. Refused with 12, 11, 3 or 13, the length is 0 and the output is as it was.
@@ -11,8 +12,10 @@ pub extern "C" fn vimelosa_write_triples(image: &[u8], output: &mut [u8]) -> u64
     ensures promise { HostWriteTriplesPromise image.now output.old result
         output.new }
 {
-    let text = to_text(image, output);
-    pack_text(text.answer, text.length)
+    match to_text(image, output) {
+        Ok(length) => pack_text(0, length),
+        Err(refusal) => pack_text(u8::from(refusal), 0),
+    }
 }
 
 // Reads the text into 2,048 words and writes their image. Answers 0 or the refusal, for 3 the place of the
@@ -23,6 +26,9 @@ pub extern "C" fn vimelosa_read_triples(text: &[u8], output: &mut [u8]) -> u64
     ensures promise { HostReadTriplesPromise text.now output.old result
         output.new }
 {
-    let imaged = to_image(text, output);
-    pack(imaged.answer, imaged.place, 0, imaged.length)
+    match to_image(text, output) {
+        Ok(length) => pack(0, 0, 0, length),
+        Err(Rejected::Broken(place)) => pack(u8::from(Refusal::Inconsistent), place, 0, 0),
+        Err(Rejected::Refused(refusal)) => pack(u8::from(refusal), 0, 0, 0),
+    }
 }

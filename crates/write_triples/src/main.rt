@@ -5,12 +5,11 @@
 
 use exchange::{LONGEST_TEXT, put_text};
 use image::LONGEST;
-use streams::{Filled, read_input, write_output};
+use streams::{read_input, write_output};
 
 fn main(rt: HostRuntime) {
     let mut input = [0u8; LONGEST + 1];
-    let filled = read_input(&rt, b"write_triples", &mut input);
-    let Filled::Read(count) = filled else {
+    let Some(count) = read_input(&rt, b"write_triples", &mut input) else {
         return;
     };
     let mut out = [0u8; LONGEST_TEXT];

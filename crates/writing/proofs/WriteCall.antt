@@ -16,6 +16,11 @@ use Rattle.rdfs.specs.Refusals.{or_else, table_refusal}
 use Rattle.rdfs.specs.Register.{Table}
 use Rattle.rdfs.proofs.Tickets.FirstTrue.{passed_link}
 use Rattle.rdfs.proofs.Tickets.Steps.{table_passes, table_stops, checked_table}
+use Rattle.std.specs.Prelude.{Ok, Err}
+use Rattle.table.specs.Refused.{number}
+use Rattle.table.specs.declared.refusals.Refusal.{Refusal}
+use Rattle.table.specs.declared.refusals.Refusal.TheVariants.{ShortOutput}
+use Rattle.table.proofs.RefusalNumbers.{number_some}
 use Rattle.table.proofs.TestAnswers.{is_false}
 use Rattle.contents.specs.ImageForm.{form, first_body}
 use Rattle.contents.specs.Image.{id_bytes}
@@ -39,9 +44,10 @@ module _ {t ends : List ℕ} {n : ℕ} (h : Table product t) (q : n ≡ length (
   table_length s = s ∙ ends_length (table_writing h n q) e
 
 module _ (t out : List ℕ) where
-  refused : (n : ℕ) → n ≡ write_answer t out → (n ≡ 0 → ⊥) → WritePromise t out (record { answer = n; length = 0 }) out
-  refused n e h =
-      let no : eqb (write_answer t out) 0 ≡ false = ne_eqb (write_answer t out) 0 (λ z. h (e ∙ z)) in (
+  refused : (refusal : Refusal) → number refusal ≡ write_answer t out → WritePromise t out (Err refusal) out
+  refused refusal e =
+      let no : eqb (write_answer t out) 0 ≡ false =
+      ne_eqb (write_answer t out) 0 (λ z. omega (arith, e, z, number_some refusal)) in (
         e,
         sym (ap (λ b. cond b (length (table_image t)) 0) no),
         sym (ap (λ b. cond b (table_image t ++ drop (length (table_image t)) out) out) no),
@@ -52,19 +58,18 @@ module _ (t out : List ℕ) where
   last = or_else (ltb (length out) (length (table_image t))) 13 0
 
   -- 1, 2 and 3.
-  pub write_refused : (r : ℕ) → r ≡ table_refusal product t 0 → (r ≡ 0 → ⊥)
-      → WritePromise t out (record { answer = r; length = 0 }) out
-  write_refused r e h = refused r (e ∙ table_stops product t last (λ z. h (e ∙ z))) h
+  pub write_refused : (refusal : Refusal) → number refusal ≡ table_refusal product t 0 → WritePromise t out (Err refusal) out
+  write_refused refusal e = refused refusal (e ∙ table_stops product t last (λ z. omega (arith, e, z, number_some refusal)))
 
   module _ (consistent : Table product t) where
     -- 13.
-    pub write_short : length out < length (table_image t) → WritePromise t out (record { answer = 13; length = 0 }) out
-    write_short h = refused 13 (sym (table_passes product t consistent last
-        ∙ ap (λ b. or_else b 13 0) (lt-ltb (length out) (length (table_image t)) h))) (omega arith)
+    pub write_short : length out < length (table_image t) → WritePromise t out (Err ShortOutput) out
+    write_short h = refused ShortOutput (sym (table_passes product t consistent last
+        ∙ ap (λ b. or_else b 13 0) (lt-ltb (length out) (length (table_image t)) h)))
 
     pub write_done : length (table_image t) ≤ length out → (size : ℕ) → size ≡ length (table_image t)
         → (out' : List ℕ) → out' ≡ table_image t ++ drop (length (table_image t)) out
-        → WritePromise t out (record { answer = 0; length = size }) out'
+        → WritePromise t out (Ok size) out'
     write_done h size s out' q =
         let zero-answer : write_answer t out ≡ 0 =
         table_passes product t consistent last ∙ ap (λ b. or_else b 13 0) (le-ltb (length out) (length (table_image t)) h) in

@@ -1,11 +1,12 @@
 -- What `write` answers and leaves, for all words of a table and all bytes.
-use Rattle.std.specs.Prelude.{ℕ, ◌≡◌, Bool, cond, List, [], ◌∷◌, ◌++◌, eqb, ltb, length, drop}
+use Rattle.std.specs.Prelude.{ℕ, ◌≡◌, Bool, cond, Result, Ok, Err, List, [], ◌∷◌, ◌++◌, eqb, ltb, length, drop}
 use Rattle.rdfs.specs.Numbers.{product}
 use Rattle.rdfs.specs.Words.{filled}
 use Rattle.rdfs.specs.Refusals.{first_true, table_refusal}
+use Rattle.table.specs.declared.refusals.Refusal.{Refusal}
+use Rattle.table.specs.Refused.{answer_of}
 use Rattle.contents.specs.ImageForm.{form}
 use Rattle.contents.specs.Image.{image_of}
-use Rattle.writing.specs.declared.Written.{Written}
 
 -- The image of a table's facts.
 abbrev pub table_image : List ℕ → List ℕ
@@ -29,9 +30,14 @@ write_bytes table output =
     cond (eqb (write_answer table output) 0) (table_image table ++ drop (length (table_image table)) output)
     output
 
+-- The length that a call answers; 0 on refusal.
+abbrev pub length_of : Result ℕ Refusal → ℕ
+length_of (Ok size) = size
+length_of (Err _) = 0
+
 -- The promise of writing, for all words of a table and all bytes of an output: its answer, and the bytes
 -- left.
-abbrev pub WritePromise : List ℕ → List ℕ → Written → List ℕ → Type 0
+abbrev pub WritePromise : List ℕ → List ℕ → Result ℕ Refusal → List ℕ → Type 0
 WritePromise table output written left =
-    (written.answer ≡ write_answer table output) × (written.length ≡ write_length table output)
+    (answer_of written ≡ write_answer table output) × (length_of written ≡ write_length table output)
     × (left ≡ write_bytes table output)

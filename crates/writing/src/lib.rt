@@ -15,34 +15,24 @@ mod writer;
 
 use consistency::check;
 use contents::FORM;
-use table::{KINDS, SHORT_OUTPUT, Word, count_facts};
+use table::{KINDS, Refusal, Word, count_facts};
 use writer::{find_ends, image_length, put_bodies, put_contents};
 
 // A place for each kind, and one for 0.
 const ENDS: usize = KINDS as usize + 1;
 
-// What writing answers: 0 or a refusal, and the image's length, 0 on refusal.
-#[derive(Clone, Copy)]
-pub struct Written {
-    pub answer: u8,
-    pub length: u16,
-}
-
-// Writes the image of a table. The bytes after it are untouched. Refused with 1, 2, 3 or 13, all bytes are as
-// they were.
-pub fn write(table: &[Word], output: &mut [u8]) -> Written
+// Writes the image of a table and answers its length. The bytes after it are untouched. Refused with 1, 2, 3
+// or 13, all bytes are as they were.
+pub fn write(table: &[Word], output: &mut [u8]) -> Result<u16, Refusal>
     ensures promise { WritePromise table.now output.old result
         output.new }
 {
-    let answer = check(table);
-    if answer != 0 {
-        return Written { answer, length: 0 };
-    }
+    check(table)?;
     write_checked(table, output)
 }
 
 // Writes the image of a table known to be consistent. Only 13 can come.
-pub fn write_checked(table: &[Word], output: &mut [u8]) -> Written
+pub fn write_checked(table: &[Word], output: &mut [u8]) -> Result<u16, Refusal>
     requires table { Table product table.now }
     ensures promise { WritePromise table.now output.old result
         output.new }
@@ -52,20 +42,15 @@ pub fn write_checked(table: &[Word], output: &mut [u8]) -> Written
     find_ends(FORM, table, count, &mut ends);
     let length = image_length(FORM, &ends);
     if output.len() < length {
-        return Written {
-            answer: SHORT_OUTPUT,
-            length: 0,
-        };
+        return Err(Refusal::ShortOutput);
     }
     put_contents(FORM, &ends, output);
     put_bodies(FORM, table, &ends, output);
-    Written {
-        answer: 0,
-        length: length as u16,
-    }
+    Ok(length as u16)
 }
 
 // The length of the image of a table known to be consistent.
+// Its first lines are those of `write_checked`: a function for them would lend the array of ends, no plainer.
 pub fn length_checked(table: &[Word]) -> usize
     requires table { Table product table.now }
     ensures answer { result ≡ length (table_image table.now) }

@@ -6,7 +6,7 @@ ghost use Rattle.table.specs.Found.{below};
 ghost use Rattle.table.specs.Parts.{word_of};
 ghost use Rattle.table.specs.Overlay.{over};
 ghost use Rattle.contents.specs.ImageForm.{byte_values, in_bytes, entry_at, first_body};
-ghost use Rattle.contents.specs.Legible.{form_of};
+ghost use Rattle.contents.specs.FormOf.{form_of};
 ghost use Rattle.contents.specs.Image.{id_bytes, entry, image_of};
 ghost use Rattle.writing.specs.KindEnds.{count_by, contents_by, length_by, KindEnds, KindEndsOf};
 ghost use Rattle.writing.specs.Writing.{
@@ -19,7 +19,7 @@ ghost use Rattle.writing.specs.Writing.{
   Embodied,
 };
 
-use contents::{BEFORE_FIELDS, BYTE, Form, entry_at, fact_size, first_body};
+use contents::{BEFORE_FIELDS, BYTE, Form};
 use table::{Word, arity_of, count_below, first_of, second_of, third_of, word_of};
 
 // How many facts a table has of the kinds up to k.
@@ -29,23 +29,23 @@ fn count_to(table: &[Word], count: usize, k: Word) -> usize
     ensures answer { result ≡ below (take count table.now) (word_of (k + 1) 0 0 0) }
 {
     let next = word_of(k + 1, 0, 0, 0);
-    count_below(table, count, next)
+    count_below(&table[..count], next)
 }
 
 // Stores, at the place of each kind of the form, how many facts the table has of the kinds up to it. At place
 // 0 stands 0.
+// The loops over kinds go from 0 and add 1: a range with both ends in it has two ways out, which doubles each
+// goal behind the loop.
 pub fn find_ends(form: Form, table: &[Word], count: usize, ends: &mut [usize])
     requires table { Writing (form_of form) table.now count }
     requires room { (form_of form).entries < length ends.old }
     requires none { get_or ends.old 0 0 ≡ 0 }
     ensures ends { KindEndsOf (form_of form) table.now count ends.new }
 {
-    let mut done: Word = 0;
-    while done < form.entries {
+    for done in 0..form.entries {
         let k = done + 1;
         let to = count_to(table, count, k);
         ends[k as usize] = to;
-        done = k;
     }
 }
 
@@ -63,14 +63,10 @@ pub fn image_length(form: Form, ends: &[usize]) -> usize
     requires ends { KindEnds (form_of form) ends.now }
     ensures answer { result ≡ length_by (form_of form) ends.now }
 {
-    let mut done: Word = 0;
-    let mut length = first_body(form);
-    while done < form.entries {
+    let mut length = form.first_body();
+    for done in 0..form.entries {
         let k = done + 1;
-        let size = fact_size(form, k);
-        let count = count_of(ends, k);
-        length += size * count;
-        done = k;
+        length += form.fact_size(k) * count_of(ends, k);
     }
     length
 }
@@ -81,12 +77,10 @@ fn put_bytes(output: &mut [u8], at: usize, value: usize, size: usize)
     requires small { value < byte_values ^ size }
     ensures bytes { output.new ≡ over output.old at (in_bytes size value) }
 {
-    let mut stored = 0;
     let mut rest = value;
-    while stored < size {
+    for stored in 0..size {
         output[at + stored] = (rest % BYTE) as u8;
         rest /= BYTE;
-        stored += 1;
     }
 }
 
@@ -96,8 +90,8 @@ fn put_entry(form: Form, output: &mut [u8], k: Word, start: usize, count: usize)
     ensures bytes { output.new ≡ over output.old (entry_at (form_of form) k)
         (entry (form_of form) k start count) }
 {
-    let at = entry_at(form, k);
-    let size = fact_size(form, k);
+    let at = form.entry_at(k);
+    let size = form.fact_size(k);
     output[at] = k as u8;
     output[at + 1] = size as u8;
     let first = at + BEFORE_FIELDS;
@@ -116,15 +110,12 @@ pub fn put_contents(form: Form, ends: &[usize], output: &mut [u8])
 {
     output[0] = form.edition as u8;
     output[1] = form.entries as u8;
-    let mut done: Word = 0;
-    let mut start = first_body(form);
-    while done < form.entries {
+    let mut start = form.first_body();
+    for done in 0..form.entries {
         let k = done + 1;
-        let size = fact_size(form, k);
         let count = count_of(ends, k);
         put_entry(form, output, k, start, count);
-        start += size * count;
-        done = k;
+        start += form.fact_size(k) * count;
     }
 }
 
@@ -169,11 +160,9 @@ fn put_stretch(
         output.new to result }
     ensures answer { start ≤ result }
 {
-    let mut place = from;
     let mut at = start;
-    while place < to {
-        at = put_fact(form, output, at, table[place], ids);
-        place += 1;
+    for word in &table[from..to] {
+        at = put_fact(form, output, at, *word, ids);
     }
     at
 }
@@ -185,14 +174,12 @@ pub fn put_bodies(form: Form, table: &[Word], ends: &[usize], output: &mut [u8])
         ++ drop (length (image_of product (form_of form) (filled table.now)))
         output.old }
 {
-    let mut done: Word = 0;
-    let mut at = first_body(form);
-    while done < form.entries {
+    let mut at = form.first_body();
+    for done in 0..form.entries {
         let k = done + 1;
         let ids = arity_of(k);
         let from = ends[done as usize];
         let to = ends[k as usize];
         at = put_stretch(form, table, from, to, ids, output, at);
-        done = k;
     }
 }

@@ -7,29 +7,23 @@ use Rattle.apply_tickets.proofs.run_program.Goals as goal
 pub run_input-all-requires : goal.run_input-all-requires
 run_input-all-requires g c =
     record {
-      lent = let words = made_fresh c.args.table.now c.requires.most c.fresh.ensures.words in
+      lent = let words = made_fresh c.args.table.now c.requires.most c.fresh-outcome.ensures.words in
           lent_fresh words c.requires.sized;
     }
 
 pub put_count-length-requires : goal.put_count-length-requires
 put_count-length-requires g c =
-    let words = made_fresh c.args.table.now c.requires.most c.fresh.ensures.words in
+    let words = made_fresh c.args.table.now c.requires.most c.fresh-outcome.ensures.words in
     let all = c.run_input-all in record {
-      table = ran_table _ c.requires.sized.whole words all.result c.if-all.true all.ensures.turns;
+      table = ran_table _ c.requires.sized.whole words all.result c.if-not-all.false all.ensures.turns;
       room = omega (arith, c.requires.sized.room, all.auto.out);
     }
 
-pub returns-then-written : goal.returns-then-written
-returns-then-written g c =
-    let words = made_fresh c.args.table.now c.requires.most c.fresh.ensures.words in
+pub returns : goal.returns
+returns g c =
+    let words = made_fresh c.args.table.now c.requires.most c.fresh-outcome.ensures.words in
     let all = c.run_input-all in
     let count = c.put_count-length in record {
-      printed = ran_prints _ c.requires.sized.whole words all.result c.if-all.true all.ensures.turns count.result
+      printed = ran_prints _ c.requires.sized.whole words all.result c.if-not-all.false all.ensures.turns count.result
           count.new.out count.ensures.text;
     }
-
-pub returns-else-written : goal.returns-else-written
-returns-else-written g c = record { printed = λ some. absurd (omega (arith, some)) }
-
-pub returns-else-all : goal.returns-else-all
-returns-else-all g c = record { printed = λ some. absurd (omega (arith, some)) }

@@ -31,13 +31,9 @@ slice_bounds-words-end c =
     sym (length-take-le c.count_facts-count.result c.args.table.now
     (counted_ascending product c.args.table.now c.requires.layout _ c.count_facts-count.ensures.answer).0)
 
-pub count_indexed-met-requires : goal.count_indexed-met-requires
-count_indexed-met-requires c =
-    let r = counted_words c.args.table.now c.requires.layout _ c.count_facts-count.ensures.answer c.requires.size in
-    record {
-      words = r.0;
-      few = r.1;
-    }
+pub count_indexed-met-requires-clause-words : goal.count_indexed-met-requires-clause-words
+count_indexed-met-requires-clause-words c =
+    (counted_words c.args.table.now c.requires.layout _ c.count_facts-count.ensures.answer c.requires.size).0
 
 pub returns-then-met-lt-INDEXED : goal.returns-then-met-lt-INDEXED
 returns-then-met-lt-INDEXED c =
@@ -46,13 +42,9 @@ returns-then-met-lt-INDEXED c =
           (indexed_stops _ c.count_indexed-met.ensures.answer c.if-met-lt-INDEXED.true);
     }
 
-pub all_exclusive-requires : goal.all_exclusive-requires
-all_exclusive-requires c =
-    let r = counted_words c.args.table.now c.requires.layout _ c.count_facts-count.ensures.answer c.requires.size in
-    record {
-      words = r.0;
-      few = r.1;
-    }
+pub all_exclusive-requires-clause-words : goal.all_exclusive-requires-clause-words
+all_exclusive-requires-clause-words c =
+    (counted_words c.args.table.now c.requires.layout _ c.count_facts-count.ensures.answer c.requires.size).0
 
 pub returns-then-all_exclusive : goal.returns-then-all_exclusive
 returns-then-all_exclusive c =

@@ -4,7 +4,7 @@ use Rattle.consistency.proofs.first_broken.Goals as goal
 
 pub returns-then-met-lt-RULES : goal.returns-then-met-lt-RULES
 returns-then-met-lt-RULES c =
-    record { answer = rw c.rule_at-rule.ensures.answer (met_broken c.count_met-met.ensures.answer c.if-met-lt-RULES.true) }
+    record { answer = rw c.rule_at.ensures.answer (met_broken c.count_met-met.ensures.answer c.if-met-lt-RULES.true) }
 
 pub returns : goal.returns
 returns c = record { answer = met_all c.count_met-met.ensures.answer c.if-met-lt-RULES.false }

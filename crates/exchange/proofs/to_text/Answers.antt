@@ -1,27 +1,18 @@
 -- `to_text`: refused by reading, else as writing does. Assumes nothing.
+use mathlib.Core.Path.{refl}
+use Rattle.std.proofs.lemmas.Result.{err_from_is_err_and}
 use Rattle.exchange.proofs.Between.{read_table}
-use Rattle.exchange.proofs.ExchangeWays.{text_unread, text_read}
+use Rattle.exchange.proofs.ExchangeWays.{text_unread}
 use Rattle.exchange.proofs.to_text.Goals as goal
 
-pub returns-then-refusal-ne0 : goal.returns-then-refusal-ne0
-returns-then-refusal-ne0 c =
-    record {
-      promise = text_unread c.args.image.now c.args.output.now c.read-refusal.result c.read-refusal.ensures.promise.0
-          c.if-refusal-ne0.true;
-    }
+pub returns-in_err-read : goal.returns-in_err-read
+returns-in_err-read c =
+    let p = err_from_is_err_and c.from_residual.result c.from_residual.ensures.1 in
+    rw (p.1, p.2)
+    (record {
+      promise = text_unread c.args.image.now c.args.output.now _ c.in_err-read.ensures.promise.0 c.in_err-read.field-0.0 refl;
+    })
 
 pub write_checked-requires : goal.write_checked-requires
 write_checked-requires c =
-    record {
-      table = read_table c.args.image.now c.read-refusal.result c.read-refusal.ensures.promise.0 c.if-refusal-ne0.false
-          c.read-refusal.ensures.promise.1;
-    }
-
-pub returns : goal.returns
-returns c =
-    record {
-      promise = text_read c.args.image.now c.args.output.now c.read-refusal.result c.read-refusal.ensures.promise.0
-          c.if-refusal-ne0.false
-          c.read-refusal.ensures.promise.1 c.write_checked.result c.write_checked.new.output
-          c.write_checked.ensures.promise;
-    }
+    let read = c.in_ok-read.ensures.promise in record { table = read_table c.args.image.now 0 read.0 refl read.1 }

@@ -7,12 +7,9 @@ use Rattle.exclusive.proofs.HolderLaws.{holders_none}
 use Rattle.exclusive.proofs.Answered.{filled_two}
 use Rattle.exclusive.proofs.has_two_holders.Goals as goal
 
-pub fill_holders-requires-clause-table : goal.fill_holders-requires-clause-table
-fill_holders-requires-clause-table c = c.requires.table.counted
-
 pub fill_holders-requires-clause-holders : goal.fill_holders-requires-clause-holders
 fill_holders-requires-clause-holders c = record { whole = omega arith; none = holders_none (suc product.top) }
 
 pub returns : goal.returns
 returns c =
-    record { answer = filled_two (facts_of c.args.table.now) _ c.args.a c.fill_holders.ensures.answer }
+    record { answer = filled_two (facts_of c.args.facts.now) _ c.args.a c.fill_holders.ensures.answer }

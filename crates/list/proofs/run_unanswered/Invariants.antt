@@ -1,14 +1,14 @@
--- `run_unanswered`: the invariant is `Unanswered`, that the bytes before `from` are run; with it the table stays consistent. The
--- measure is the bytes that are left. Assumes nothing.
-use Prim.Native.Nat.{◌-◌}
-use lib.ListN.{length}
-use Rattle.rdfs.specs.Numbers.{product}
+-- `run_unanswered`: the invariant is `Unanswered`, that the tickets so far are run; with it the table stays consistent. Assumes
+-- nothing.
+use Rattle.std.proofs.Common.{◌≡◌}
+use Rattle.std.specs.Slice.Iter.{chunks_rest, chunks_size}
+use Rattle.rdfs.specs.Numbers.{product, record_length}
 use Rattle.rdfs.specs.Operators.{step_as}
 use Rattle.list.proofs.Unanswered.{Unanswered}
 use Rattle.list.proofs.run_unanswered.Given as goal
 
-abbrev pub invariant-loop-from : goal.invariant-loop-from
-invariant-loop-from l = Unanswered (step_as l.operator product) l.initial.table l.bytes l.from l.table
-
-abbrev pub decreases-loop-from : goal.decreases-loop-from
-decreases-loop-from l = length l.bytes - l.from
+abbrev pub invariant-loop-ticket : goal.invariant-loop-ticket
+invariant-loop-ticket l = record {
+  five : chunks_size l.ticket-iterator ≡ record_length;
+  walk : Unanswered (step_as l.operator product) l.initial.table l.bytes (chunks_rest l.ticket-iterator) l.table;
+}

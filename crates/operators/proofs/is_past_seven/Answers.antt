@@ -1,12 +1,7 @@
--- `is_past_seven`: by the first of 5 to 8. Assumes nothing.
-use Rattle.ticket_form.specs.TicketForm.{sense}
-use Rattle.operators.proofs.Barred.{eight_past, other_past}
+-- `is_past_seven`: by the first of 5 to 7. Assumes nothing.
+use mathlib.Core.Path.{◌∙◌}
+use Rattle.ticket_form.proofs.Numbered.{ok_answers}
 use Rattle.operators.proofs.is_past_seven.Goals as goal
 
-pub returns-then-form-eq-GUARDED : goal.returns-then-form-eq-GUARDED
-returns-then-form-eq-GUARDED c =
-    record { answer = eight_past (sense c.args.ticket) c.form_refusal-form.ensures.answer c.if-form-eq-GUARDED.true }
-
 pub returns : goal.returns
-returns c =
-    record { answer = other_past (sense c.args.ticket) c.form_refusal-form.ensures.answer c.if-form-eq-GUARDED.false }
+returns c = record { answer = c.is_ok.ensures.value ∙ ok_answers c.check_fields.result c.check_fields.ensures.answer }

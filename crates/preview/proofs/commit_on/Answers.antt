@@ -1,44 +1,43 @@
 -- `commit_on`: each way through it. Assumes nothing.
-use mathlib.Core.Path.{sym, subst, ◌∙◌}
+use mathlib.Core.Path.{refl, sym, subst, ◌∙◌}
+use Rattle.std.specs.Prelude.{Ok}
+use Rattle.std.proofs.lemmas.Result.{err_from_is_err_and}
 use Rattle.rdfs.specs.Numbers.{product}
 use Rattle.rdfs.specs.Register.{Table}
 use Rattle.preview.proofs.Trials.{tried}
 use Rattle.preview.proofs.CommitWays.{way_ticket, way_stale, way_committed}
 use Rattle.preview.proofs.commit_on.Goals as goal
 
-pub copy_words-requires : goal.copy_words-requires
-copy_words-requires c = record { length = sym c.requires.work }
+pub try_ticket-requires : goal.try_ticket-requires
+try_ticket-requires c = record { table = subst (Table product) (sym c.copy_from_slice.ensures.after) c.requires.table }
 
-pub try_ticket-applied-requires : goal.try_ticket-applied-requires
-try_ticket-applied-requires c = record { table = subst (Table product) (sym c.copy_words.ensures.words) c.requires.table }
+pub returns-in_err-applied : goal.returns-in_err-applied
+returns-in_err-applied c =
+    let p = err_from_is_err_and c.from_residual.result c.from_residual.ensures.1 in
+    rw (p.1, p.2) (record {
+      answer = way_ticket c.args.ticket.now c.args.added.now c.args.removed.now c.in_err-applied.field-0.0 c.requires.table
+          c.copy_from_slice.ensures.after c.in_err-applied.ensures.answer;
+    })
 
-pub returns-then-applied-ne0 : goal.returns-then-applied-ne0
-returns-then-applied-ne0 c =
+pub is_current-requires : goal.is_current-requires
+is_current-requires c =
     record {
-      answer = way_ticket c.args.ticket.now c.args.added.now c.args.removed.now c.try_ticket-applied.result c.requires.table
-          c.copy_words.ensures.words c.try_ticket-applied.ensures.answer c.if-applied-ne0.true c.refused.ensures.answer;
+      tables = tried c.args.ticket.now (Ok c.in_ok-applied.applied) c.requires.table c.copy_from_slice.ensures.after
+          c.in_ok-applied.ensures.answer refl;
     }
 
-pub is_current-current-requires : goal.is_current-current-requires
-is_current-current-requires c =
+pub returns-then-not-is_current : goal.returns-then-not-is_current
+returns-then-not-is_current c =
     record {
-      tables = tried c.args.ticket.now c.try_ticket-applied.result c.requires.table c.copy_words.ensures.words
-          c.try_ticket-applied.ensures.answer c.if-applied-ne0.false;
-    }
-
-pub returns-then-current : goal.returns-then-current
-returns-then-current c =
-    record {
-      answer = way_committed c.args.ticket.now c.args.added.now c.args.removed.now c.try_ticket-applied.result c.requires.table
-          c.copy_words.ensures.words c.try_ticket-applied.ensures.answer
-          c.if-applied-ne0.false (sym c.if-current.true ∙ c.is_current-current.ensures.answer)
-          c.copy_words-then-current.ensures.words;
+      answer = way_stale c.args.ticket.now c.args.added.now c.args.removed.now (Ok c.in_ok-applied.applied) c.requires.table
+          c.copy_from_slice.ensures.after c.in_ok-applied.ensures.answer refl
+          (sym c.if-not-is_current.true ∙ c.is_current.ensures.answer);
     }
 
 pub returns : goal.returns
 returns c =
     record {
-      answer = way_stale c.args.ticket.now c.args.added.now c.args.removed.now c.try_ticket-applied.result c.requires.table
-          c.copy_words.ensures.words c.try_ticket-applied.ensures.answer c.if-applied-ne0.false
-          (sym c.if-current.false ∙ c.is_current-current.ensures.answer) c.refused-2.ensures.answer;
+      answer = way_committed c.args.ticket.now c.args.added.now c.args.removed.now (Ok c.in_ok-applied.applied)
+          c.requires.table c.copy_from_slice.ensures.after c.in_ok-applied.ensures.answer refl
+          (sym c.if-not-is_current.false ∙ c.is_current.ensures.answer) c.copy_from_slice-2.ensures.after;
     }

@@ -1,36 +1,32 @@
 -- `apply_each`: the count of tickets, the refusal, the loop and the counts, put together. Assumes nothing.
-use mathlib.Core.Bool.{false}
+use Rattle.std.proofs.lemmas.Result.{err_from_is_err_and}
+use Rattle.std.proofs.Common.{false}
 use Rattle.list_form.proofs.ListCall.{bytes_judged, list_room, list_refused, list_within, list_run}
 use Rattle.singles.proofs.apply_each.Goals as goal
 
-pub returns-then-refusal-ne0 : goal.returns-then-refusal-ne0
-returns-then-refusal-ne0 c =
-    record {
-      answer = let judged = bytes_judged c.args.bytes.now c.args.answers.now c.count_tickets-tickets.ensures.answer
-          (c.list_refusal-refusal.ensures.answer, c.list_refusal-refusal.ensures.words) in
-          list_refused false c.args.bytes.now judged c.if-refusal-ne0.true c.sum_up.ensures.answer;
-    }
+pub returns-in_err-check_list : goal.returns-in_err-check_list
+returns-in_err-check_list c =
+    let p = err_from_is_err_and c.from_residual.result c.from_residual.ensures.1 in
+    let judged = bytes_judged c.args.bytes.now c.args.answers.now {w = c.args.table.now} c.count_tickets-tickets.ensures.answer
+    c.in_err-check_list.ensures.answer in
+    rw (p.1, p.2) (record { answer = list_refused false c.args.bytes.now c.in_err-check_list.field-0.0 judged })
 
 pub run_each-accepted-requires : goal.run_each-accepted-requires
 run_each-accepted-requires c =
-    record {
-      room = let judged = bytes_judged c.args.bytes.now c.args.answers.now c.count_tickets-tickets.ensures.answer
-          (c.list_refusal-refusal.ensures.answer, c.list_refusal-refusal.ensures.words) in
-          list_room judged c.if-refusal-ne0.false;
+    let judged = bytes_judged c.args.bytes.now c.args.answers.now {w = c.args.table.now} c.count_tickets-tickets.ensures.answer
+    c.in_ok-check_list.ensures.answer in record {
+      room = list_room judged;
     }
 
-pub sum_up-requires-2 : goal.sum_up-requires-2
-sum_up-requires-2 c =
-    record {
-      bound = let judged = bytes_judged c.args.bytes.now c.args.answers.now c.count_tickets-tickets.ensures.answer
-          (c.list_refusal-refusal.ensures.answer, c.list_refusal-refusal.ensures.words) in
-          list_within false c.args.bytes.now judged c.run_each-accepted.ensures.answer;
-    }
+pub sum_up-requires : goal.sum_up-requires
+sum_up-requires c =
+    let judged = bytes_judged c.args.bytes.now c.args.answers.now {w = c.args.table.now} c.count_tickets-tickets.ensures.answer
+    c.in_ok-check_list.ensures.answer in
+    record { bound = list_within false c.args.bytes.now judged c.run_each-accepted.ensures.answer }
 
 pub returns : goal.returns
 returns c =
-    record {
-      answer = let judged = bytes_judged c.args.bytes.now c.args.answers.now c.count_tickets-tickets.ensures.answer
-          (c.list_refusal-refusal.ensures.answer, c.list_refusal-refusal.ensures.words) in
-          list_run false c.args.bytes.now judged c.run_each-accepted.ensures.answer c.if-refusal-ne0.false c.sum_up-2.ensures.answer;
+    let judged = bytes_judged c.args.bytes.now c.args.answers.now {w = c.args.table.now} c.count_tickets-tickets.ensures.answer
+    c.in_ok-check_list.ensures.answer in record {
+      answer = list_run false c.args.bytes.now judged c.run_each-accepted.ensures.answer c.sum_up.ensures.answer;
     }

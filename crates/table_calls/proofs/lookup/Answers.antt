@@ -1,32 +1,28 @@
 -- `lookup`: the refusals, then the search among the facts. Assumes nothing.
 use mathlib.Core.Path.{sym, ap, ◌∙◌}
-use Rattle.rdfs.specs.Numbers.{product}
 use Rattle.rdfs.specs.Lists.{member}
-use Rattle.table.proofs.Filled.{counted_filled, counted_ascending}
+use Rattle.table.specs.Counted.{Counted}
+use Rattle.table.proofs.CountedLaws.{counted_first}
+use Rattle.table.proofs.CutTable.{cut_length, cut_ascending}
 use Rattle.table.proofs.TableRefusals.{taken_laid}
-use Rattle.table_calls.proofs.CallCases.{present_refused, present_taken}
-use borrow.Author.Rules.{rules}
+use Rattle.table_calls.proofs.CallCases.{present_taken}
 use Rattle.table_calls.proofs.lookup.Goals as goal
+use Rattle.table_calls.proofs.lookup.Goals.{After-count_facts-count}
 
-pub returns-then-answer-ne0-clause-answer : goal.returns-then-answer-ne0-clause-answer
-returns-then-answer-ne0-clause-answer c = c.layout_refusal-answer.ensures.answer
+-- The table is laid out, and the count that of its facts.
+counted : (c : After-count_facts-count) → Counted c.args.table.now c.count_facts-count.result
+counted c = record {
+  laid = taken_laid c.args.table.now (sym c.in_ok-check_layout.ensures.answer);
+  size = c.count_facts-count.ensures.answer;
+}
 
-pub returns-then-answer-ne0-clause-present : goal.returns-then-answer-ne0-clause-present
-returns-then-answer-ne0-clause-present c = sym (present_refused c.args.table.now c.args.word (λ e. c.if-answer-ne0.true (c.layout_refusal-answer.ensures.answer ∙ e)))
+pub slice_bounds-has_word-end : goal.slice_bounds-has_word-end
+slice_bounds-has_word-end c = cut_length (counted c)
 
-pub count_facts-count-requires : goal.count_facts-count-requires
-count_facts-count-requires c =
-    record { laid = taken_laid c.args.table.now (sym c.layout_refusal-answer.ensures.answer ∙ c.if-answer-ne0.false) }
+pub has_word-requires : goal.has_word-requires
+has_word-requires c = record { words = cut_ascending (counted c) }
 
-pub has_word-present-requires : goal.has_word-present-requires
-has_word-present-requires c =
-    record { table = counted_ascending product c.args.table.now (taken_laid c.args.table.now (sym c.layout_refusal-answer.ensures.answer ∙ c.if-answer-ne0.false)) _ c.count_facts-count.ensures.answer }
-
-pub returns : goal.returns
-returns c =
-    let taken = sym c.layout_refusal-answer.ensures.answer ∙ c.if-answer-ne0.false in
-    let facts = counted_filled product c.args.table.now (taken_laid c.args.table.now taken) _ c.count_facts-count.ensures.answer in record {
-      answer = c.layout_refusal-answer.ensures.answer;
-      present = c.has_word-present.ensures.answer ∙ (ap (λ l. member l c.args.word) facts
-          ∙ sym (present_taken c.args.table.now c.args.word taken));
-    }
+pub returns-clause-present : goal.returns-clause-present
+returns-clause-present c = c.has_word.ensures.answer
+    ∙ (ap (λ l. member l c.args.word) (counted_first (counted (goal.at.returns-clause-present c).After-count_facts-count))
+    ∙ sym (present_taken c.args.table.now c.args.word (sym c.in_ok-check_layout.ensures.answer)))

@@ -1,45 +1,29 @@
-use Prim.Native.Nat.{◌+◌, ◌<◌}
-use mathlib.Core.Path.{◌≡◌, refl, subst}
-use native.Mathlib.Omega.{arith}
-use lib.ListN.{length}
-use borrow.Author.Rules.{rules}
-use Rattle.text.proofs.PutText.{few_digits, digits_fit, Copied, copied_none, copied_more, number_put}
+-- `put_number`: the digits are copied whole, and the byte after them has room. Assumes nothing.
+use Rattle.std.proofs.Common.{arith, ap, ◌∙◌, ◌+◌, ◌-◌, ◌++◌, length, take}
+use Rattle.std.proofs.lemmas.Slice.{take-put_mid}
+use borrow.Rule.Slice.PartMut.{same_len_mid}
+use Rattle.text.proofs.PutText.{digits_fit, number_put, digits_length}
 use Rattle.text.proofs.put_number.Goals as goal
 
-pub loop-place-init : goal.loop-place-init
-loop-place-init c = (
-  search rules,
-  few_digits 20 c.args.number c.decimal-count.result (omega arith) (omega (arith, c.ranges.number.fits))
-      c.decimal-count.ensures.len,
-  digits_fit c.args.number c.args.after c.args.at c.decimal-count.result c.args.out.now
-      c.requires.room c.decimal-count.ensures.len,
-  refl,
-  copied_none c.args.at c.args.out.now c.decimal-count.new.out,
-)
-
-pub loop-place-preserved : goal.loop-place-preserved
-loop-place-preserved c =
-    let digits = c.decimal-count.new.out in
-    let in-digits : c.loop-place.place < length digits =
-    omega (arith, c.loop-place-test.true, c.decimal-count.ensures.in_bounds.0) in
-    let in-out : c.args.at + c.loop-place.place < length c.loop-place.out =
-    omega (arith, c.loop-place-test.true, c.loop-place.invariant.2) in (
-      search rules,
-      c.loop-place.invariant.1,
-      search rules,
-      search rules,
-      copied_more c.args.at c.loop-place.place c.args.out.now
-          digits c.loop-place.out in-out in-digits c.loop-place.invariant.4,
-    )
+pub bounds-out-end : goal.bounds-out-end
+bounds-out-end c =
+    let at = c.args.at in
+    let digits = c.copy_from_slice.new.self in
+    let fit = digits_fit c.args.number c.args.after at c.decimal-count.result c.args.out.now c.requires.room
+    c.decimal-count.ensures.len in
+    omega (arith, fit, same_len_mid at _ c.args.out.now digits c.copy_from_slice.ensures.len)
 
 pub returns : goal.returns
 returns c =
+    let at = c.args.at in
+    let count = c.decimal-count.result in
+    let out = c.args.out.now in
+    let fit = digits_fit c.args.number c.args.after at count out c.requires.room c.decimal-count.ensures.len in
+    let digits = c.copy_from_slice.ensures.after ∙ c.decimal-count.ensures.digits in
+    let long = ap length digits ∙ digits_length count c.args.number in
+    let kept = same_len_mid at (at + count - at) out _ c.copy_from_slice.ensures.len in
+    let put = take-put_mid at (at + count - at) out c.copy_from_slice.new.self (at + count) (omega (arith, long)) (omega (arith, fit)) in
     record {
-      text = let digits = c.decimal-count.new.out in
-          let out = c.loop-place.out in
-          let whole : c.loop-place.place ≡ c.decimal-count.result =
-          omega (arith, c.loop-place.invariant.0, c.loop-place-test.false) in
-          number_put c.args.at c.args.number c.decimal-count.result c.args.after c.args.out.now digits out
-          c.loop-place.invariant.2 c.decimal-count.ensures.len c.decimal-count.ensures.digits
-          (subst (λ i. Copied c.args.at i c.args.out.now digits out) whole c.loop-place.invariant.4);
+      text = number_put at c.args.number count c.args.after out _ (omega (arith, fit, kept)) c.decimal-count.ensures.len
+          (put ∙ ap (λ l. take at out ++ l) digits);
     }

@@ -7,9 +7,6 @@ use Rattle.contents.proofs.bodies.is_rising.Goals as goal
 pub loop-done-init : goal.loop-done-init
 loop-done-init c = climbed_start _ _
 
-pub overflow_add-k : goal.overflow_add-k
-overflow_add-k c = omega (arith, c.loop-done-test.true, c.requires.contents.form.few)
-
 pub start_at-from-requires : goal.start_at-from-requires
 start_at-from-requires c =
     record { entry = contents_entry c.requires.contents _ (omega arith) (omega (arith, c.loop-done-test.true)) }
@@ -18,8 +15,8 @@ pub count_at-count-requires : goal.count_at-count-requires
 count_at-count-requires c =
     record { entry = contents_entry c.requires.contents _ (omega arith) (omega (arith, c.loop-done-test.true)) }
 
-pub rise_of-rise-requires : goal.rise_of-rise-requires
-rise_of-rise-requires c =
+pub rise_of-requires : goal.rise_of-requires
+rise_of-requires c =
     record {
       facts = contents_facts c.requires.contents _ (omega arith) (omega (arith, c.loop-done-test.true)) _ _
           c.start_at-from.ensures.answer c.count_at-count.ensures.answer;
@@ -28,18 +25,12 @@ rise_of-rise-requires c =
 pub returns-in_default : goal.returns-in_default
 returns-in_default c =
     record {
-      answer = sym (climbed_broken c.loop-done.invariant c.loop-done-test.true c.rise_of-rise.result _ _
-          c.start_at-from.ensures.answer c.count_at-count.ensures.answer c.rise_of-rise.ensures.answer
+      answer = sym (climbed_broken c.loop-done.invariant c.loop-done-test.true c.rise_of.result _ _
+          c.start_at-from.ensures.answer c.count_at-count.ensures.answer c.rise_of.ensures.answer
           c.in_default.is);
     }
 
-pub loop-done-smaller : goal.loop-done-smaller
-loop-done-smaller c = omega (arith, c.loop-done-test.true)
-
 pub loop-done-preserved : goal.loop-done-preserved
 loop-done-preserved c =
-    climbed_more c.loop-done.invariant c.loop-done-test.true c.rise_of-rise.result _ _ c.start_at-from.ensures.answer
-    c.count_at-count.ensures.answer c.rise_of-rise.ensures.answer _ c.in-To.is
-
-pub returns : goal.returns
-returns c = record { answer = sym (climbed_end c.loop-done.invariant c.loop-done-test.false) }
+    climbed_more c.loop-done.invariant c.loop-done-test.true c.rise_of.result _ _ c.start_at-from.ensures.answer
+    c.count_at-count.ensures.answer c.rise_of.ensures.answer _ c.in-Some.is

@@ -1,30 +1,22 @@
 -- `bodies::is_well_formed`: the contents are right and the words laid out. Assumes nothing.
 use native.Mathlib.Omega.{arith}
+use mathlib.Core.Path.{◌∙◌}
 use Rattle.table.proofs.TestAnswers.{decides_true, decides_false}
 use Rattle.contents.proofs.Product.{rising_well, wrong_malformed}
 use Rattle.contents.proofs.bodies.is_well_formed.Goals as goal
 
-pub is_rising-requires : goal.is_rising-requires
-is_rising-requires c =
+pub returns-then-has_contents : goal.returns-then-has_contents
+returns-then-has_contents c =
     record {
-      contents = record {
-        form = c.requires.form;
-        right = decides_true c.has_contents-right.result c.has_contents-right.ensures.answer
-            c.if-right.true;
-      };
-    }
-
-pub returns-then-right : goal.returns-then-right
-returns-then-right c =
-    record {
-      answer = rising_well c.requires.form c.args.image.now (λ i. omega (arith, c.type_inv.image i))
-          (decides_true c.has_contents-right.result c.has_contents-right.ensures.answer c.if-right.true)
+      answer = rising_well c.args.form.legible c.args.image.now (λ i. omega (arith, c.type_inv.image i))
+          (decides_true c.has_contents.result c.has_contents.ensures.answer c.if-has_contents.true)
           c.is_rising.result c.is_rising.ensures.answer;
     }
 
-pub returns : goal.returns
-returns c =
+pub returns-else-has_contents : goal.returns-else-has_contents
+returns-else-has_contents c =
     record {
-      answer = wrong_malformed c.requires.form c.args.image.now (λ i. omega (arith, c.type_inv.image i))
-          (decides_false c.has_contents-right.result c.has_contents-right.ensures.answer c.if-right.false);
+      answer = c.if-has_contents.false ∙ wrong_malformed c.args.form.legible c.args.image.now
+          (λ i. omega (arith, c.type_inv.image i))
+          (decides_false c.has_contents.result c.has_contents.ensures.answer c.if-has_contents.false);
     }

@@ -3,9 +3,10 @@ use mathlib.Core.Path.{sym, ◌∙◌}
 use Rattle.contents.proofs.Climbing.{climb_start, climb_more, climb_low, climb_no_fact, climb_end}
 use Rattle.contents.proofs.ImagePlaces.{fact_within}
 use Rattle.contents.proofs.bodies.rise_of.Goals as goal
-
-pub fact_size-size-requires : goal.fact_size-size-requires
-fact_size-size-requires c = record { form = c.requires.facts.form }
+use Rattle.contents.proofs.bodies.rise_of.Goals.{
+  then-word-top-via-then-word-top,
+  then-word-top-via-else-word-top+then-not-is_fact,
+}
 
 pub loop-passed-init : goal.loop-passed-init
 loop-passed-init c = climb_start _ _ _ _ _ _
@@ -17,15 +18,14 @@ word_at-word-requires c =
 pub returns-then-word-top : goal.returns-then-word-top
 returns-then-word-top c =
     record {
-      answer = climb_low _ _ _ c.loop-passed.invariant c.loop-passed-test.true _ c.word_at-word.ensures.answer
-          c.if-word-top.true;
-    }
-
-pub returns-then-not-good : goal.returns-then-not-good
-returns-then-not-good c =
-    record {
-      answer = climb_no_fact _ _ _ c.loop-passed.invariant c.loop-passed-test.true _ c.word_at-word.ensures.answer
-          (sym c.is_fact-good.ensures.answer ∙ c.if-not-good.true);
+      answer = elim c.then-word-top.branch [
+        | then-word-top-via-then-word-top w ↦
+            climb_low _ _ _ c.loop-passed.invariant c.loop-passed-test.true _ c.word_at-word.ensures.answer
+            w.if-word-top.true
+        | then-word-top-via-else-word-top+then-not-is_fact w ↦
+            climb_no_fact _ _ _ c.loop-passed.invariant c.loop-passed-test.true _ c.word_at-word.ensures.answer
+            (sym w.is_fact.ensures.answer ∙ w.if-not-is_fact.true)
+      ];
     }
 
 pub overflow_add-place : goal.overflow_add-place
@@ -33,16 +33,10 @@ overflow_add-place c =
     let next = fact_within c.requires.facts _ _ c.loop-passed.invariant.place c.loop-passed-test.true in
     omega (arith, c.fact_size-size.ensures.answer, next.within)
 
-pub overflow_add-passed : goal.overflow_add-passed
-overflow_add-passed c = omega (arith, c.loop-passed-test.true)
-
-pub loop-passed-smaller : goal.loop-passed-smaller
-loop-passed-smaller c = omega (arith, c.loop-passed-test.true)
-
 pub loop-passed-preserved : goal.loop-passed-preserved
 loop-passed-preserved c =
     climb_more _ _ _ c.loop-passed.invariant c.loop-passed-test.true _ c.word_at-word.ensures.answer c.if-word-top.false
-    (sym c.is_fact-good.ensures.answer ∙ c.if-not-good.false) _
+    (sym c.is_fact.ensures.answer ∙ c.if-not-is_fact.false) _
     c.fact_size-size.ensures.answer
 
 pub returns : goal.returns

@@ -1,55 +1,39 @@
 -- `entries::has_contents`: each test is one part of the contents. Assumes nothing.
 use native.Mathlib.Omega.{arith}
 use mathlib.Core.Path.{sym, ◌∙◌}
+use borrow.Author.Tests.{eq-eqb, lt-leb}
+use Rattle.std.proofs.lemmas.Bool.{eqb-true}
 use Rattle.contents.specs.ImageForm.{first_body}
-use Rattle.contents.specs.Legible.{form_of}
+use Rattle.contents.specs.FormOf.{form_of}
+use Rattle.contents.specs.Contents.{Contents}
 use Rattle.contents.proofs.ImageAgain.{chained_within}
-use Rattle.contents.proofs.Deciding.{decides_as}
+use Rattle.contents.proofs.Deciding.{decides_as, decides_not, not_both}
 use Rattle.contents.proofs.entries.has_contents.Goals as goal
+use Rattle.contents.proofs.entries.has_contents.Goals.{
+  then-image-first_body,
+  else-image-first_body,
+  then-byte_at-form,
+  else-byte_at-form,
+}
 
-pub returns-then-image-first : goal.returns-then-image-first
-returns-then-image-first c =
-    record {
-      answer = let F = form_of c.args.form in
-          λ h. omega (
-            arith,
-            c.if-image-first.true,
-            c.first_body-first.ensures.answer,
-            chained_within F c.args.image.now F.entries 0
-                (first_body F) h.linked.chain,
-          );
-    }
-
-pub byte_at-edition-requires : goal.byte_at-edition-requires
-byte_at-edition-requires c =
-    record { within = omega (arith, c.if-image-first.false, c.first_body-first.ensures.answer) }
-
-pub returns-then-edition-form : goal.returns-then-edition-form
-returns-then-edition-form c =
-    record { answer = λ h. c.if-edition-form.true (c.byte_at-edition.ensures.answer ∙ h.edition) }
-
-pub byte_at-entries-requires : goal.byte_at-entries-requires
-byte_at-entries-requires c =
-    record { within = omega (arith, c.if-image-first.false, c.first_body-first.ensures.answer) }
-
-pub returns-then-entries-form : goal.returns-then-entries-form
-returns-then-entries-form c =
-    record { answer = λ h. c.if-entries-form.true (c.byte_at-entries.ensures.answer ∙ h.entries) }
-
-pub is_chained-requires-clause-form : goal.is_chained-requires-clause-form
-is_chained-requires-clause-form c = c.requires.form
-
-pub is_chained-requires-clause-within : goal.is_chained-requires-clause-within
-is_chained-requires-clause-within c = omega (arith, c.if-image-first.false, c.first_body-first.ensures.answer)
-
-pub returns : goal.returns
-returns c =
-    record {
-      answer = decides_as c.is_chained.result c.is_chained.ensures.answer
-          (λ l. record {
-            edition = sym c.byte_at-edition.ensures.answer ∙ c.if-edition-form.false;
-            entries = sym c.byte_at-entries.ensures.answer ∙ c.if-entries-form.false;
-            linked = l;
-          })
-          (λ h. h.linked);
-    }
+pub returns-else-byte_at-form-2 : goal.returns-else-byte_at-form-2
+returns-else-byte_at-form-2 c =
+    let wrong : Contents (form_of c.args.form) c.args.image.now → ⊥ =
+    elim c.if-byte_at-form.branch [
+      | then-byte_at-form w ↦ λ h.
+          let same = eq-eqb _ _ (w.byte_at-then-byte_at-form.ensures.answer ∙ h.entries) in
+          not_both (w.value-is ∙ same) c.if-byte_at-form-2.false
+      | else-byte_at-form w ↦ elim c.if-image-first_body.branch [
+        | then-image-first_body v ↦ λ h.
+            let same = eq-eqb _ _ (v.byte_at.ensures.answer ∙ h.edition) in
+            not_both (v.value-is ∙ same) w.if-byte_at-form.false
+        | else-image-first_body v ↦ λ h. omega (
+          arith,
+          v.if-image-first_body.false,
+          c.first_body.ensures.answer,
+          chained_within (form_of c.args.form) c.args.image.now (form_of c.args.form).entries 0
+              (first_body (form_of c.args.form)) h.linked.chain,
+        )
+      ]
+    ] in
+    record { answer = decides_not _ _ c.if-byte_at-form-2.false wrong }

@@ -3,15 +3,6 @@ use Rattle.contents.proofs.InBytes.{number_bound}
 use Rattle.contents.proofs.NumberRead.{summed_start, summed_small, summed_more, summed_all}
 use Rattle.contents.proofs.entries.number_at.Goals as goal
 
-pub loop-left-init : goal.loop-left-init
-loop-left-init c = summed_start _ _ _
-
-pub overflow_add-place : goal.overflow_add-place
-overflow_add-place c = omega (arith, c.loop-left.invariant.within)
-
-pub byte_at-byte-requires : goal.byte_at-byte-requires
-byte_at-byte-requires c = record { within = omega (arith, c.loop-left.invariant.within, c.requires.within) }
-
 pub overflow_mul-value : goal.overflow_mul-value
 overflow_mul-value c =
     omega (
@@ -26,12 +17,12 @@ overflow_add-value c =
       arith,
       summed_small c.loop-left.invariant (λ i. omega (arith, c.type_inv.image i))
           c.loop-left-test.true c.requires.few,
-      c.byte_at-byte.ensures.bound,
+      c.byte_at.ensures.bound,
     )
 
 pub loop-left-preserved : goal.loop-left-preserved
 loop-left-preserved c =
-    summed_more c.loop-left.invariant c.requires.within c.loop-left-test.true _ c.byte_at-byte.ensures.answer
+    summed_more c.loop-left.invariant c.requires.within c.loop-left-test.true _ c.byte_at.ensures.answer
 
 pub returns : goal.returns
 returns c =

@@ -3,31 +3,29 @@ use Rattle.differences.proofs.Searching.{search_start, search_within, search_end
 use Rattle.differences.proofs.besides.next_besides.Goals as goal
 use Rattle.differences.proofs.besides.next_besides.Goals.{then-word-other-2, else-word-other-2}
 
-pub loop-passed-init : goal.loop-passed-init
-loop-passed-init c = search_start c.requires.lists
+pub loop-past-init : goal.loop-past-init
+loop-past-init c = search_start c.requires.lists
 
-pub offset_bounds-words-at : goal.offset_bounds-words-at
-offset_bounds-words-at c = let within = search_within c.loop-passed.invariant in omega (arith, within)
+pub offset_bounds-words-place : goal.offset_bounds-words-place
+offset_bounds-words-place c = let within = search_within c.loop-past.invariant in omega (arith, within)
 
-pub bounds-words-at : goal.bounds-words-at
-bounds-words-at c = search_within c.loop-passed.invariant
+pub bounds-words-place : goal.bounds-words-place
+bounds-words-place c = search_within c.loop-past.invariant
 
 pub returns-then-word-other : goal.returns-then-word-other
 returns-then-word-other c =
-    record { answer = search_found c.loop-passed.invariant c.loop-passed-test.true c.if-word-other.true }
+    record { answer = search_found c.loop-past.invariant c.loop-past-test.true c.if-word-other.true }
 
-pub overflow_add-at : goal.overflow_add-at
-overflow_add-at c =
-    let within = search_within c.loop-passed.invariant in
-    omega (arith, within)
+pub overflow_add-place : goal.overflow_add-place
+overflow_add-place c = let within = search_within c.loop-past.invariant in omega (arith, within)
 
-pub loop-passed-preserved : goal.loop-passed-preserved
-loop-passed-preserved c =
+pub loop-past-preserved : goal.loop-past-preserved
+loop-past-preserved c =
     elim c.if-word-other-2.branch [
-      | then-word-other-2 w ↦ rw w.at-is (search_same c.loop-passed.invariant c.loop-passed-test.true w.if-word-other-2.true)
-      | else-word-other-2 w ↦ rw w.at-is
-          (search_past c.loop-passed.invariant c.loop-passed-test.true (omega (arith, w.if-word-other-2.false)))
+      | then-word-other-2 w ↦ rw w.place-is (search_same c.loop-past.invariant c.loop-past-test.true w.if-word-other-2.true)
+      | else-word-other-2 w ↦ rw w.place-is
+          (search_past c.loop-past.invariant c.loop-past-test.true (omega (arith, w.if-word-other-2.false)))
     ]
 
 pub returns : goal.returns
-returns c = record { answer = search_end c.loop-passed.invariant c.loop-passed-test.false }
+returns c = record { answer = search_end c.loop-past.invariant c.loop-past-test.false }

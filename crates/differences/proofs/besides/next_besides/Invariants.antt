@@ -1,12 +1,7 @@
--- `besides::next_besides`. The loop's invariant: no word before `at` is new, and the others passed are below it. The measure is
--- the number of others left. Assumes nothing.
-use Prim.Native.Nat.{◌-◌}
-use lib.ListN.{length}
+-- `besides::next_besides`. The loop's invariant: no word before `place` is new, and the others passed are below it. Assumes
+-- nothing.
 use Rattle.differences.proofs.Searching.{Searching}
 use Rattle.differences.proofs.besides.next_besides.Given as goal
 
-abbrev pub invariant-loop-passed : goal.invariant-loop-passed
-invariant-loop-passed l = Searching l.words l.others l.place l.past l.at l.passed
-
-abbrev pub decreases-loop-passed : goal.decreases-loop-passed
-decreases-loop-passed l = length l.others - l.passed
+abbrev pub invariant-loop-past : goal.invariant-loop-past
+invariant-loop-past l = Searching l.words l.others l.fn.from.place l.fn.from.past l.place l.past

@@ -1,29 +1,10 @@
+use Prim.Native.Nat.{◌<◌}
 use native.Mathlib.Omega.{arith}
-use Rattle.differences.proofs.Matching.{match_start, match_apart, match_put, match_done}
+use lib.ListN.{length}
+use Rattle.differences.proofs.Matching.{match_put}
 use Rattle.differences.proofs.besides.put_besides.Goals as goal
 
-pub loop-at-init : goal.loop-at-init
-loop-at-init c = match_start c.requires.lists
-
-pub next_besides-next-requires : goal.next_besides-next-requires
-next_besides-next-requires c = record { lists = match_apart c.loop-at.invariant c.loop-at-test.true }
-
-pub offset_bounds-words-found : goal.offset_bounds-words-found
-offset_bounds-words-found c = omega (arith, c.next_besides-next.ensures.answer.within)
-
-pub bounds-words-found : goal.bounds-words-found
-bounds-words-found c = c.next_besides-next.ensures.answer.within
-
-pub overflow_add-place : goal.overflow_add-place
-overflow_add-place c = omega (arith, c.next_besides-next.ensures.answer.within)
-
-pub loop-at-smaller : goal.loop-at-smaller
-loop-at-smaller c = omega (arith, c.loop-at.invariant.measured.size)
-
-pub loop-at-preserved : goal.loop-at-preserved
-loop-at-preserved c =
-    match_put c.loop-at.invariant c.loop-at-test.true c.next_besides-next.result
-    c.next_besides-next.ensures.answer
-
-pub returns : goal.returns
-returns c = record { words = match_done c.loop-at.invariant c.loop-at-test.false }
+pub loop-slot-preserved : goal.loop-slot-preserved
+loop-slot-preserved c =
+    let room : c.loop-slot.slot-index < length c.loop-slot.run = omega (arith, c.loop-slot-test.true, c.loop-slot.auto.run) in
+    match_put c.loop-slot.invariant room c.next_besides-next.result c.next_besides-next.ensures.answer

@@ -1,13 +1,6 @@
--- `above::flag_exclusive`. The loop's invariant is `Flagging`: the flags are those of the words before `at`. The measure is the
--- number of words left. Assumes nothing.
-use Prim.Native.Nat.{◌-◌}
-use Rattle.exclusive.proofs.KindPlaces.{Pass}
+-- `above::flag_exclusive`. The loop's invariant is `Flagging`: the flags are those of the words that were seen. Assumes nothing.
 use Rattle.exclusive.proofs.AboveFlags.{Flagging}
 use Rattle.exclusive.proofs.above.flag_exclusive.Given as goal
 
-abbrev pub invariant-loop-at : goal.invariant-loop-at
-invariant-loop-at l =
-    Pass l.words.from l.words.to l.at (Flagging l.table l.words.from l.at l.p l.initial.flags l.flags l.some)
-
-abbrev pub decreases-loop-at : goal.decreases-loop-at
-decreases-loop-at l = l.words.to - l.at
+abbrev pub invariant-loop-word : goal.invariant-loop-word
+invariant-loop-word l = Flagging l.facts l.word-items l.word-index l.p l.initial.flags l.flags l.some

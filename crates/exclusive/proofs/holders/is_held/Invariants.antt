@@ -1,12 +1,7 @@
--- `holders::is_held`. The loop's invariant is `Unshared`: no word before `at` has a flagged property and a value that another
--- holds. The measure is the number of words left. Assumes nothing.
-use Prim.Native.Nat.{◌-◌}
-use Rattle.exclusive.proofs.KindPlaces.{Pass}
+-- `holders::is_held`. The loop's invariant is `Unshared`: no word that was seen has a flagged property and a value that another
+-- holds. Assumes nothing.
 use Rattle.exclusive.proofs.HolderLaws.{Unshared}
 use Rattle.exclusive.proofs.holders.is_held.Given as goal
 
-abbrev pub invariant-loop-at : goal.invariant-loop-at
-invariant-loop-at l = Pass l.words.from l.words.to l.at (Unshared l.table l.words.from l.at l.flags l.holders)
-
-abbrev pub decreases-loop-at : goal.decreases-loop-at
-decreases-loop-at l = l.words.to - l.at
+abbrev pub invariant-loop-word : goal.invariant-loop-word
+invariant-loop-word l = Unshared l.word-items l.word-index l.flags l.holders

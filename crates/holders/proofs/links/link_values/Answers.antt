@@ -8,7 +8,7 @@ use Rattle.holders.proofs.links.link_values.Goals as goal
 pub loop-at-init : goal.loop-at-init
 loop-at-init c =
     linking_none c.requires.places c.requires.none _ _ _ _ c.word_of.ensures.answer
-    c.word_of-2.ensures.answer c.place_of-at.ensures.answer c.place_of-end.ensures.answer
+    c.word_of-2.ensures.answer c.place_of-from.ensures.answer c.place_of-end.ensures.answer
 
 pub offset_bounds-table-at : goal.offset_bounds-table-at
 offset_bounds-table-at c = omega (arith, linking_place c.loop-at.invariant c.loop-at-test.true)
@@ -35,9 +35,6 @@ offset_bounds-links-at c = omega (arith, linking_few c.loop-at.invariant c.loop-
 
 pub bounds-links-at : goal.bounds-links-at
 bounds-links-at c = place_within c.loop-at.invariant c.loop-at-test.true
-
-pub overflow_add-at : goal.overflow_add-at
-overflow_add-at c = omega (arith, linking_few c.loop-at.invariant c.loop-at-test.true)
 
 pub overflow_cast-links : goal.overflow_cast-links
 overflow_cast-links c = omega (arith, linking_few c.loop-at.invariant c.loop-at-test.true)

@@ -1,11 +1,7 @@
 -- `links::link_values` meets its contract. The loop's invariant: the values before `at` are linked, and those left stand from
--- `at` up to `end`. The measure is their number. Assumes nothing.
-use Prim.Native.Nat.{◌-◌}
+-- `at` up to `end`. Assumes nothing.
 use Rattle.holders.proofs.Linking.{Linking}
 use Rattle.holders.proofs.links.link_values.Given as goal
 
 abbrev pub invariant-loop-at : goal.invariant-loop-at
 invariant-loop-at l = Linking l.table l.links l.end l.at
-
-abbrev pub decreases-loop-at : goal.decreases-loop-at
-decreases-loop-at l = l.end - l.at

@@ -4,10 +4,6 @@ use Rattle.holders.proofs.Walking.{walking_start, walking_more, walking_twice, w
 use Rattle.holders.proofs.Walking.{walking_place, value_within}
 use Rattle.holders.proofs.walk.is_held_once.Goals as goal
 
-pub number_at-link-requires : goal.number_at-link-requires
-number_at-link-requires c =
-    record { place = omega (arith, c.latest_at.ensures.answer, c.requires.links.linked.linkable.places, c.requires.links.id) }
-
 pub loop-link-init : goal.loop-link-init
 loop-link-init c =
     walking_start _ _ (rw (c.number_at-link.ensures.answer, c.latest_at.ensures.answer) (c.requires.links.linked.last c.args.z))
@@ -56,11 +52,6 @@ number_at-link-requires-in-loop-link c =
       );
     }
 
-pub loop-link-smaller : goal.loop-link-smaller
-loop-link-smaller c =
-    let next = c.requires.links.linked.next c.args.z (c.loop-link.link - 1) (c.loop-link.invariant.here (omega arith)) in
-    omega (arith, c.number_at-link-in-loop-link.ensures.answer, next.within)
-
 pub loop-link-preserved : goal.loop-link-preserved
 loop-link-preserved c =
     let next = c.requires.links.linked.next c.args.z (c.loop-link.link - 1) (c.loop-link.invariant.here (omega arith)) in
@@ -70,6 +61,3 @@ loop-link-preserved c =
 
 pub returns-clause-answer : goal.returns-clause-answer
 returns-clause-answer c = walking_end c.loop-link.invariant (omega arith)
-
-pub returns-clause-stamps : goal.returns-clause-stamps
-returns-clause-stamps c = c.loop-link.invariant.most

@@ -8,6 +8,6 @@ use Rattle.print_facts.proofs.lines.put_facts.Goals as goal
 pub returns : goal.returns
 returns c =
     record {
-      printed = subst (λ l. WordsPrinted l c.put_lines.result c.put_lines.new.out) (ap filled c.read.ensures.promise.1
+      printed = subst (λ l. WordsPrinted l c.put_lines.result c.put_lines.new.out) (ap filled c.read-outcome.ensures.promise.1
           ∙ filled_read c.args.image.now) c.put_lines.ensures.printed;
     }

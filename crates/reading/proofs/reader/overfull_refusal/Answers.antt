@@ -6,18 +6,18 @@ use Rattle.rdfs.specs.Refusals.{or_else}
 use Rattle.contents.proofs.Product.{right_malformed}
 use Rattle.reading.proofs.reader.overfull_refusal.Goals as goal
 
-pub returns-then-rising : goal.returns-then-rising
-returns-then-rising c =
+pub returns-then-is_rising : goal.returns-then-is_rising
+returns-then-is_rising c =
     record {
-      answer = sym (ap (λ m. or_else m 12 11) (right_malformed c.requires.contents.form c.args.image.now
-          (λ i. omega (arith, c.type_inv.image i)) c.requires.contents.right
-          ∙ ap not (sym c.is_rising-rising.ensures.answer ∙ c.if-rising.true)));
+      answer = sym (ap (λ m. or_else m 12 11) (right_malformed c.args.form.legible c.args.image.now
+          (λ i. omega (arith, c.type_inv.image i)) c.requires.contents
+          ∙ ap not (sym c.is_rising.ensures.answer ∙ c.if-is_rising.true)));
     }
 
 pub returns : goal.returns
 returns c =
     record {
-      answer = sym (ap (λ m. or_else m 12 11) (right_malformed c.requires.contents.form c.args.image.now
-          (λ i. omega (arith, c.type_inv.image i)) c.requires.contents.right
-          ∙ ap not (sym c.is_rising-rising.ensures.answer ∙ c.if-rising.false)));
+      answer = sym (ap (λ m. or_else m 12 11) (right_malformed c.args.form.legible c.args.image.now
+          (λ i. omega (arith, c.type_inv.image i)) c.requires.contents
+          ∙ ap not (sym c.is_rising.ensures.answer ∙ c.if-is_rising.false)));
     }

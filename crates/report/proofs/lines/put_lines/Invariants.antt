@@ -1,15 +1,13 @@
--- `put_lines`: the invariant is `PrintingFrom`, that the tickets before place i are run and their lines gathered. The measure is
--- the bytes that are left. Assumes nothing.
-use Prim.Native.Nat.{◌-◌, ◌≤◌}
-use mathlib.Core.Path.{◌≡◌}
-use lib.ListN.{length}
-use Rattle.report.proofs.Printing.{PrintingFrom}
+-- `put_lines`: the invariant is `PrintingBytes`, that the tickets so far are run and their lines gathered. Assumes nothing.
+use Rattle.std.proofs.Common.{◌≡◌, length}
+use Rattle.std.specs.Slice.Iter.{chunks_rest, chunks_size}
+use Rattle.rdfs.specs.Numbers.{record_length}
+use Rattle.report.proofs.Printing.{PrintingBytes}
 use Rattle.report.proofs.lines.put_lines.Given as goal
 
-abbrev pub invariant-loop-from : goal.invariant-loop-from
-invariant-loop-from l =
-    (l.from ≤ length l.bytes) × (length l.out ≡ length l.initial.out)
-    × PrintingFrom l.initial.table l.bytes l.from l.at l.table l.out
-
-abbrev pub decreases-loop-from : goal.decreases-loop-from
-decreases-loop-from l = length l.bytes - l.from
+abbrev pub invariant-loop-ticket : goal.invariant-loop-ticket
+invariant-loop-ticket l = record {
+  five : chunks_size l.ticket-iterator ≡ record_length;
+  room : length l.out ≡ length l.initial.out;
+  lines : PrintingBytes l.initial.table l.bytes (chunks_rest l.ticket-iterator) l.at l.table l.out;
+}

@@ -20,6 +20,6 @@ pub returns-then-count-bytes : goal.returns-then-count-bytes
 returns-then-count-bytes g c =
     record { turn = shows_more c.args.bytes.now c.args.count c.put_lines-length.ensures.printed (search rules) }
 
-pub returns-then-written : goal.returns-then-written
-returns-then-written g c =
+pub returns : goal.returns
+returns g c =
     record { turn = shows_last c.args.bytes.now c.args.count c.put_lines-length.ensures.printed (search rules) }

@@ -1,6 +1,5 @@
 -- `merge::group_start` meets its contract: the word at the place goes on with the group of the word before, or begins one.
 -- Assumes nothing.
-use borrow.Author.Rules.{rules}
 use Rattle.spans.proofs.GroupStarts.{group_goes_on, group_begins}
 use Rattle.spans.proofs.merge.group_start.Goals as goal
 

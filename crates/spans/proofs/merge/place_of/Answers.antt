@@ -1,17 +1,14 @@
-use Prim.Native.Nat.{◌-◌}
-use native.Mathlib.Omega.{arith}
-use Rattle.spans.proofs.SpanPlaces.{Enclosed, enclosed_start, enclosed_up, enclosed_down, enclosed_done}
+-- `merge::place_of` meets its contract: the words below the word come first. Assumes nothing.
+use borrow.Author.Rules.{rules}
+use lib.Dec.{ltb}
+use Rattle.std.proofs.lemmas.List.Sorted.{IsPartitionPoint-from_clause}
+use Rattle.spans.proofs.SpanPlaces.{partitioned, below_point}
 use Rattle.spans.proofs.merge.place_of.Goals as goal
 
-pub loop-from-init : goal.loop-from-init
-loop-from-init c = enclosed_start _ _
-
-pub loop-from-preserved-then-table-middle : goal.loop-from-preserved-then-table-middle
-loop-from-preserved-then-table-middle c = enclosed_up c.requires.words c.loop-from.invariant _ (omega arith) c.if-table-middle.true
-
-pub loop-from-preserved : goal.loop-from-preserved
-loop-from-preserved c =
-    enclosed_down c.requires.words c.loop-from.invariant _ (omega arith) (omega arith) c.if-table-middle.false
-
 pub returns : goal.returns
-returns c = record { answer = enclosed_done c.loop-from.invariant c.loop-from-test.false }
+returns c =
+    record {
+      answer = below_point c.requires.words c.args.word _ c.partition_point.ensures.bound
+          (IsPartitionPoint-from_clause (λ y. ltb y c.args.word) c.args.table.now _ c.partition_point.ensures.partitioned
+          (partitioned c.requires.words c.args.word) (λ a r f' k. search rules));
+    }

@@ -1,14 +1,18 @@
-use Prim.Native.Nat.{◌-◌}
+-- `room::put_at`: the words from the place on stand one place up, and the word is stored there. Assumes nothing.
+use mathlib.Core.Path.{ap, ◌∙◌}
 use native.Mathlib.Omega.{arith}
-use lib.ListN.{length-set}
-use Rattle.table.proofs.Moved.{Moving, moving_start, moving_more, moving_done}
+use native.Mathlib.Numerals.{add-one}
+use lib.ListN.{set}
+use Rattle.std.specs.List.{copy_within}
+use Rattle.table.proofs.Moved.{moved_within, moved_set}
 use Rattle.table.proofs.room.put_at.Goals as goal
 
-pub loop-at-init : goal.loop-at-init
-loop-at-init c = moving_start _ _ _ c.requires.place
-
-pub loop-at-preserved : goal.loop-at-preserved
-loop-at-preserved c = moving_more c.loop-at.invariant c.requires.room c.loop-at-test.true
-
 pub returns : goal.returns
-returns c = record { words = moving_done c.loop-at.invariant c.requires.room _ c.loop-at-test.false }
+returns c =
+    let t = c.args.table.now in
+    let n = c.args.count in
+    let i = c.args.place in
+    record {
+      words = ap (λ u. set u i c.args.word) (c.copy_within.ensures.after ∙ ap (copy_within t i n) (add-one i)
+          ∙ moved_within t n i c.requires.place) ∙ moved_set t n i (omega (arith, c.requires.place, c.requires.room)) c.args.word;
+    }

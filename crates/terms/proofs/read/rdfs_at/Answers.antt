@@ -1,85 +1,36 @@
--- `terms::read::rdfs_at` meets its contract: a name of RDF Schema is there, or none. Assumes nothing.
-use Prim.Native.Nat.{ℕ}
+-- `rdfs_at`: a name of RDF Schema is there, or none. Assumes nothing.
 use mathlib.Core.Path.{refl}
-use mathlib.Core.List.{List, [], ◌∷◌, ◌++◌, map}
 use native.Mathlib.Omega.{arith}
-use Rattle.table.proofs.TestAnswers.{decides_false}
 use Rattle.terms.specs.Terms.{bytes}
-use Rattle.terms.specs.declared.term.Term.TheVariants.{Id, Class, SubClassOf, SubPropertyOf, Domain, Range}
-use Rattle.terms.proofs.TermReading.{rdfs_front, read_tested, read_nothing, none_behind}
+use Rattle.terms.specs.declared.term.Term.TheVariants.{Id, SubPropertyOf, Domain, Range}
+use Rattle.terms.proofs.Fronts.{stripped}
+use Rattle.terms.proofs.TermReading.{rdfs_front, named_read}
 use Rattle.terms.proofs.read.rdfs_at.Goals as goal
 
-abbrev names : List (List ℕ)
-names =
-    bytes "subClassOf>" ∷ bytes "Resource>" ∷ bytes "Class>" ∷ bytes "subPropertyOf>"
-    ∷ bytes "domain>" ∷ bytes "range>" ∷ bytes "Literal>" ∷ []
-
-pub returns-then-is_subclass : goal.returns-then-is_subclass
-returns-then-is_subclass c =
+pub returns-in-Some-strip_prefix-3 : goal.returns-in-Some-strip_prefix-3
+returns-in-Some-strip_prefix-3 c =
     record {
-      answer = read_tested rdfs_front (bytes "subClassOf>") _ SubClassOf tt refl c.has_at-is_subclass.ensures.answer
-          c.if-is_subclass.true;
+      answer = named_read rdfs_front (bytes "subPropertyOf>") SubPropertyOf tt refl (stripped c.args.text.now
+          (bytes "subPropertyOf>") c.in-Some-strip_prefix-3.rest c.in-Some-strip_prefix-3.ensures.cases);
     }
 
-pub returns-then-is_resource : goal.returns-then-is_resource
-returns-then-is_resource c =
+pub returns-in-Some-strip_prefix-4 : goal.returns-in-Some-strip_prefix-4
+returns-in-Some-strip_prefix-4 c =
     record {
-      answer = read_tested rdfs_front (bytes "Resource>") _ (Id 0) (omega arith) refl c.has_at-is_resource.ensures.answer
-          c.if-is_resource.true;
+      answer = named_read rdfs_front (bytes "domain>") Domain tt refl (stripped c.args.text.now
+          (bytes "domain>") c.in-Some-strip_prefix-4.rest c.in-Some-strip_prefix-4.ensures.cases);
     }
 
-pub returns-then-is_class : goal.returns-then-is_class
-returns-then-is_class c =
+pub returns-in-Some-strip_prefix-5 : goal.returns-in-Some-strip_prefix-5
+returns-in-Some-strip_prefix-5 c =
     record {
-      answer = read_tested rdfs_front (bytes "Class>") _ Class tt refl c.has_at-is_class.ensures.answer c.if-is_class.true;
+      answer = named_read rdfs_front (bytes "range>") Range tt refl (stripped c.args.text.now
+          (bytes "range>") c.in-Some-strip_prefix-5.rest c.in-Some-strip_prefix-5.ensures.cases);
     }
 
-pub returns-then-is_subproperty : goal.returns-then-is_subproperty
-returns-then-is_subproperty c =
+pub returns-in-Some-strip_prefix-6 : goal.returns-in-Some-strip_prefix-6
+returns-in-Some-strip_prefix-6 c =
     record {
-      answer = read_tested rdfs_front (bytes "subPropertyOf>") _ SubPropertyOf tt refl c.has_at-is_subproperty.ensures.answer
-          c.if-is_subproperty.true;
-    }
-
-pub returns-then-is_domain : goal.returns-then-is_domain
-returns-then-is_domain c =
-    record {
-      answer = read_tested rdfs_front (bytes "domain>") _ Domain tt refl c.has_at-is_domain.ensures.answer c.if-is_domain.true;
-    }
-
-pub returns-then-is_range : goal.returns-then-is_range
-returns-then-is_range c =
-    record {
-      answer = read_tested rdfs_front (bytes "range>") _ Range tt refl c.has_at-is_range.ensures.answer c.if-is_range.true;
-    }
-
-pub returns-then-is_mark : goal.returns-then-is_mark
-returns-then-is_mark c =
-    record {
-      answer = read_tested rdfs_front (bytes "Literal>") _ (Id 1) (omega arith) refl c.has_at-is_mark.ensures.answer
-          c.if-is_mark.true;
-    }
-
-pub returns : goal.returns
-returns c =
-    record {
-      answer = read_nothing rdfs_front _ (map (λ name. rdfs_front ++ name) names) (none_behind rdfs_front _ names (
-        decides_false _ c.has_at-is_subclass.ensures.answer c.if-is_subclass.false,
-        (
-          decides_false _ c.has_at-is_resource.ensures.answer c.if-is_resource.false,
-          (
-            decides_false _ c.has_at-is_class.ensures.answer c.if-is_class.false,
-            (
-              decides_false _ c.has_at-is_subproperty.ensures.answer c.if-is_subproperty.false,
-              (
-                decides_false _ c.has_at-is_domain.ensures.answer c.if-is_domain.false,
-                (
-                  decides_false _ c.has_at-is_range.ensures.answer c.if-is_range.false,
-                  (decides_false _ c.has_at-is_mark.ensures.answer c.if-is_mark.false, tt),
-                ),
-              ),
-            ),
-          ),
-        ),
-      )) tt tt tt;
+      answer = named_read rdfs_front (bytes "Literal>") (Id 1) (omega arith) refl (stripped c.args.text.now
+          (bytes "Literal>") c.in-Some-strip_prefix-6.rest c.in-Some-strip_prefix-6.ensures.cases);
     }

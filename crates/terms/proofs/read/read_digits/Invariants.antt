@@ -1,11 +1,11 @@
--- `terms::read::read_digits` meets its contract. The loop's invariant: the digits so far are the number's, by NumberSoFar.
--- Assumes nothing.
-use Prim.Native.Nat.{◌-◌}
+-- `read_digits`. The loop's invariant: the digits so far are the number's, by NumberSoFar. The measure is the length of what is
+-- left. Assumes nothing.
+use lib.ListN.{length}
 use Rattle.terms.proofs.DigitsReading.{NumberSoFar}
 use Rattle.terms.proofs.read.read_digits.Given as goal
 
-abbrev pub invariant-loop-value : goal.invariant-loop-value
-invariant-loop-value l = NumberSoFar l.text l.at l.value l.next
+abbrev pub invariant-loop-digit : goal.invariant-loop-digit
+invariant-loop-digit l = NumberSoFar l.text l.value l.rest
 
-abbrev pub decreases-loop-value : goal.decreases-loop-value
-decreases-loop-value l = 2560 - l.value
+abbrev pub decreases-loop-digit : goal.decreases-loop-digit
+decreases-loop-digit l = length l.rest

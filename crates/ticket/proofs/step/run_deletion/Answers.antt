@@ -2,18 +2,18 @@
 use mathlib.Core.Path.{refl}
 use borrow.Author.Rules.{rules}
 use Rattle.ticket_form.proofs.Formed.{formed_ids, formed_shaped}
-use Rattle.ticket.proofs.Ways.{ready_asked, way_deleted}
+use Rattle.ticket.proofs.Ways.{ready_counted, way_deleted}
 use Rattle.ticket.proofs.step.run_deletion.Goals as goal
 
-pub delete-left-requires : goal.delete-left-requires
-delete-left-requires c =
+pub delete-requires : goal.delete-requires
+delete-requires c =
     record {
       asked = let ids = formed_ids 2 c.args.k c.args.a c.args.b c.args.c c.requires.ticket.formed in
           let shaped = formed_shaped 2 c.args.k c.args.a c.args.b c.args.c c.requires.ticket.formed refl in
-          let counted = (ready_asked c.requires.ticket).table in
+          let counted = ready_counted c.requires.ticket in
           search rules;
     }
 
 pub returns : goal.returns
 returns c =
-    record { answer = way_deleted c.requires.ticket c.delete-left.new.table c.delete-left.result c.delete-left.ensures.words c.delete-left.ensures.answer c.delete-left.auto.table }
+    record { answer = way_deleted c.requires.ticket c.delete.new.table c.delete.result c.delete.ensures.words c.delete.ensures.answer c.delete.auto.table }

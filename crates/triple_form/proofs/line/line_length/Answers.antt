@@ -2,7 +2,8 @@
 use mathlib.Core.Path.{sym, ap, ◌∙◌}
 use native.Mathlib.Omega.{arith}
 use lib.ListN.{length}
-use Rattle.terms.specs.Terms.{spelt}
+use Rattle.std.proofs.Common.{Some}
+use Rattle.terms.specs.Terms.{spelling}
 use Rattle.triple_form.specs.LineRead.{word_line}
 use Rattle.terms.specs.declared.term.Term.TheVariants.{Id}
 use Rattle.triple_form.proofs.FactTermsOf.{word_subject}
@@ -12,13 +13,13 @@ use Rattle.triple_form.proofs.line.line_length.Goals as goal
 pub returns : goal.returns
 returns c =
     record {
-      answer = let is = ap Id c.first_of.ensures.answer ∙ sym (word_subject c.args.word c.requires.fact c.requires.line) in
+      answer = let is = ap (λ n. Some (Id n)) c.first_of.ensures.answer ∙ sym (word_subject c.args.word c.requires.fact c.requires.line) in
           omega (
             arith,
             line_length (word_line c.args.word c.args.literal),
-            c.term_length-subject.ensures.answer ∙ ap (λ t. length (spelt t)) is,
-            c.term_length-predicate.ensures.answer ∙ ap (λ t. length (spelt t)) c.predicate_of.ensures.answer,
-            c.term_length-object.ensures.answer ∙ ap (λ t. length (spelt t)) c.object_of.ensures.answer,
+            c.term_length-subject.ensures.answer ∙ ap (λ t. length (spelling t)) is,
+            c.term_length-predicate.ensures.answer ∙ ap (λ t. length (spelling t)) c.predicate_of.ensures.answer,
+            c.term_length-object.ensures.answer ∙ ap (λ t. length (spelling t)) c.object_of.ensures.answer,
           );
     }
 

@@ -1,33 +1,53 @@
--- `line::read_line`, by what its three terms and its end are read as. Assumes nothing.
-use mathlib.Core.Path.{subst}
-use lib.ListN.{drop}
-use Rattle.table.proofs.TestAnswers.{decides_true, decides_false}
-use Rattle.triple_form.specs.LineRead.{LineRead}
-use Rattle.triple_form.proofs.LineReading.{ended_known, read_none, read_told, end_within, end_behind}
+-- `line::read_line`, by what its three terms, its end and its fact are read as. Assumes nothing.
+use Rattle.terms.proofs.Fronts.{stripped}
+use Rattle.terms.specs.Terms.{bytes}
+use Rattle.triple_form.proofs.LineReading.{
+  no_line_first,
+  no_line_second,
+  no_line_third,
+  no_line_end,
+  no_line_fact,
+  line_read,
+  unstripped,
+}
 use Rattle.triple_form.proofs.line.read_line.Goals as goal
 
-pub fact_of-told-requires-clause-subject : goal.fact_of-told-requires-clause-subject
-fact_of-told-requires-clause-subject c = ended_known c.read_ended-first.ensures.answer
+pub returns-in_err-subject : goal.returns-in_err-subject
+returns-in_err-subject c =
+    rw c.from_residual.ensures (record { answer = no_line_first c.in_err-subject.ensures.answer })
 
-pub fact_of-told-requires-clause-predicate : goal.fact_of-told-requires-clause-predicate
-fact_of-told-requires-clause-predicate c = ended_known c.read_ended-second.ensures.answer
+pub returns-in_err-predicate : goal.returns-in_err-predicate
+returns-in_err-predicate c =
+    rw c.from_residual-in_err-predicate.ensures
+    (record { answer = no_line_second c.in_ok-subject.ensures.answer c.in_err-predicate.ensures.answer })
 
-pub fact_of-told-requires-clause-object : goal.fact_of-told-requires-clause-object
-fact_of-told-requires-clause-object c = ended_known c.read_ended-third.ensures.answer
+pub returns-in_err-object : goal.returns-in_err-object
+returns-in_err-object c =
+    rw c.from_residual-in_err-object.ensures
+    (record {
+      answer = no_line_third c.in_ok-subject.ensures.answer c.in_ok-predicate.ensures.answer c.in_err-object.ensures.answer;
+    })
 
-pub returns-then-ended : goal.returns-then-ended
-returns-then-ended c =
-    let begins = decides_true _ c.has_at-ended.ensures.answer c.if-ended.true in record {
-      answer = subst (LineRead (drop c.args.at c.args.text.now) c.fact_of-told.result.word
-          c.fact_of-told.result.literal) (end_behind c.args.text.now c.read_ended-third.result.next)
-          (read_told c.read_ended-first.ensures.answer c.read_ended-second.ensures.answer
-          c.read_ended-third.ensures.answer begins c.fact_of-told.ensures.answer);
-      within = end_within c.args.text.now c.read_ended-third.result.next c.read_ended-third.ensures.within begins;
+pub returns-in_err-rest : goal.returns-in_err-rest
+returns-in_err-rest c =
+    rw c.from_residual-in_err-rest.ensures
+    (record {
+      answer = no_line_end c.in_ok-subject.ensures.answer c.in_ok-predicate.ensures.answer c.in_ok-object.ensures.answer
+          (unstripped c.in_ok-object.last.now (bytes ".\n") c.in_err-rest.ensures.cases);
+    })
+
+pub returns-in_err-told : goal.returns-in_err-told
+returns-in_err-told c =
+    rw c.from_residual-in_err-told.ensures
+    (record {
+      answer = no_line_fact c.in_ok-subject.ensures.answer c.in_ok-predicate.ensures.answer c.in_ok-object.ensures.answer
+          c.in_err-told.ensures.answer;
+    })
+
+pub returns : goal.returns
+returns c =
+    record {
+      answer = line_read c.in_ok-subject.ensures.answer c.in_ok-predicate.ensures.answer c.in_ok-object.ensures.answer
+          (stripped c.in_ok-object.last.now (bytes ".\n") c.in_ok-rest.rest c.in_ok-rest.ensures.cases)
+          c.in_ok-told.ensures.answer;
     }
-
-pub returns-clause-answer : goal.returns-clause-answer
-returns-clause-answer c = read_none c.read_ended-first.ensures.answer c.read_ended-second.ensures.answer
-    c.read_ended-third.ensures.answer (decides_false _ c.has_at-ended.ensures.answer c.if-ended.false) _
-
-pub returns-clause-within : goal.returns-clause-within
-returns-clause-within c = c.requires.place

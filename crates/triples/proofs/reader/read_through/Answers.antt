@@ -1,6 +1,8 @@
 -- `reader::read_through`: the words stand in the work table; the check judges them, and they are copied if it passes. Assumes
 -- nothing.
-use mathlib.Core.Path.{◌≡◌, sym, ap, subst, ◌∙◌}
+use mathlib.Core.Path.{◌≡◌, refl, sym, ap, subst, ◌∙◌}
+use Rattle.std.proofs.lemmas.Result.{err_from_is_err_and}
+use Rattle.triples.proofs.Numbered.{number_some}
 use Prim.Native.Nat.{ℕ}
 use mathlib.Core.List.{List}
 use lib.ListN.{length, length-replicate, replicate}
@@ -14,7 +16,6 @@ use Rattle.triples.proofs.ReadTriplesCall.{
   read_refused,
   read_done,
   read_text_refused,
-  work_length,
   work_answer,
 }
 use Rattle.triples.proofs.reader.read_through.Goals as goal
@@ -31,45 +32,37 @@ module _ (table : List ℕ) {work : List ℕ} (zeros : work ≡ replicate (lengt
       → new ≡ padded (length table) (text_words product text)
   words_are text e = e ∙ ap (λ n. padded n (text_words product text)) room
 
-pub fill_text-refusal-requires : goal.fill_text-refusal-requires
-fill_text-refusal-requires c =
+pub fill_text-requires : goal.fill_text-requires
+fill_text-requires c =
     record { empty = subst (λ l. Counted l 0) (sym c.requires.work) (zeros_counted (length c.args.table.now)) }
 
-pub returns-then-refusal-ne0 : goal.returns-then-refusal-ne0
-returns-then-refusal-ne0 c =
+pub returns-in_err-fill_text : goal.returns-in_err-fill_text
+returns-in_err-fill_text c =
     let s = c.args in
-    let refusal = refusal_is s.table.now c.requires.work s.text.now c.fill_text-refusal.ensures.answer in
-    record {
-      promise = read_refused s.table.now s.text.now c.fill_text-refusal.result
-          (read_text_refused s.table.now s.text.now c.requires.size refusal c.if-refusal-ne0.true) c.if-refusal-ne0.true;
-    }
+    let p = err_from_is_err_and c.from_residual.result c.from_residual.ensures.1 in
+    let some = number_some c.in_err-fill_text.field-0.0 in
+    let refusal = refusal_is s.table.now c.requires.work s.text.now c.in_err-fill_text.ensures.answer in
+    rw (p.1, p.2)
+    (record {
+      promise = read_refused s.table.now s.text.now _
+          (read_text_refused s.table.now s.text.now c.requires.size refusal some) some;
+    })
 
-pub returns-then-answer-ne0 : goal.returns-then-answer-ne0
-returns-then-answer-ne0 c =
+pub returns-in_err-check : goal.returns-in_err-check
+returns-in_err-check c =
     let s = c.args in
-    let fill = c.fill_text-refusal.ensures in
+    let p = err_from_is_err_and c.from_residual-in_err-check.result c.from_residual-in_err-check.ensures.1 in
+    let fill = c.in_ok-fill_text.ensures in
     let refusal = refusal_is s.table.now c.requires.work s.text.now fill.answer in
-    let words = words_are s.table.now c.requires.work s.text.now (fill.words c.if-refusal-ne0.false) in
-    let answer = work_answer s.table.now s.text.now c.requires.size refusal c.if-refusal-ne0.false _ words
-    c.check-answer.ensures.answer in
-    record { promise = read_refused s.table.now s.text.now c.check-answer.result answer c.if-answer-ne0.true }
-
-pub copy_words-requires : goal.copy_words-requires
-copy_words-requires c =
-    let s = c.args in
-    let fill = c.fill_text-refusal.ensures in
-    let refusal = refusal_is s.table.now c.requires.work s.text.now fill.answer in
-    let words = words_are s.table.now c.requires.work s.text.now (fill.words c.if-refusal-ne0.false) in
-    record { length = work_length s.table.now s.text.now c.requires.size refusal c.if-refusal-ne0.false _ words }
+    let words = words_are s.table.now c.requires.work s.text.now (fill.words refl) in
+    let answer = work_answer s.table.now s.text.now c.requires.size refusal refl _ words c.in_err-check.ensures.answer in
+    rw (p.1, p.2) (record { promise = read_refused s.table.now s.text.now _ answer (number_some c.in_err-check.field-0.0) })
 
 pub returns : goal.returns
 returns c =
     let s = c.args in
-    let fill = c.fill_text-refusal.ensures in
+    let fill = c.in_ok-fill_text.ensures in
     let refusal = refusal_is s.table.now c.requires.work s.text.now fill.answer in
-    let words = words_are s.table.now c.requires.work s.text.now (fill.words c.if-refusal-ne0.false) in
-    let answer = work_answer s.table.now s.text.now c.requires.size refusal c.if-refusal-ne0.false _ words
-    c.check-answer.ensures.answer in
-    record {
-      promise = read_done s.table.now s.text.now (sym c.if-answer-ne0.false ∙ answer) _ (c.copy_words.ensures.words ∙ words);
-    }
+    let words = words_are s.table.now c.requires.work s.text.now (fill.words refl) in
+    let answer = work_answer s.table.now s.text.now c.requires.size refusal refl _ words c.in_ok-check.ensures.answer in
+    record { promise = read_done s.table.now s.text.now answer _ (c.copy_from_slice.ensures.after ∙ words) }

@@ -1,6 +1,5 @@
--- `reader::store_flagged`. The loop's invariant is `Pending`: the words of the flagged ids from n on are still to be stored. The
--- measure is the number of ids left. Assumes nothing.
-use Prim.Native.Nat.{◌-◌}
+-- `reader::store_flagged`. The loop's invariant is `Pending`: the words of the flagged ids from n on are still to be stored.
+-- Assumes nothing.
 use Rattle.triples.specs.Storing.{ids, flagged_from}
 use Rattle.triples.proofs.Pending.{Pending}
 use Rattle.triples.proofs.Ids.{from}
@@ -9,6 +8,3 @@ use Rattle.triples.proofs.reader.store_flagged.Given as goal
 abbrev pub invariant-loop-n : goal.invariant-loop-n
 invariant-loop-n l =
     Pending l.initial.table (flagged_from l.k l.flags ids) (flagged_from l.k l.flags (from l.n)) l.table l.total
-
-abbrev pub decreases-loop-n : goal.decreases-loop-n
-decreases-loop-n l = 256 - l.n

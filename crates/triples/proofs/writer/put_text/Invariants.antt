@@ -1,11 +1,7 @@
--- `writer::put_text`. The loop's invariant is `Stands`: the text of the words before `place` stands in the first `at` bytes. The
--- measure is the number of words left. Assumes nothing.
-use Prim.Native.Nat.{◌-◌}
+-- `writer::put_text`. The loop's invariant is `Stands`: the text of the words before the index stands in the first `at` bytes.
+-- Assumes nothing.
 use Rattle.triples.proofs.TextPut.{Stands}
 use Rattle.triples.proofs.writer.put_text.Given as goal
 
-abbrev pub invariant-loop-place : goal.invariant-loop-place
-invariant-loop-place l = Stands l.table l.literals l.initial.output l.output l.place l.at
-
-abbrev pub decreases-loop-place : goal.decreases-loop-place
-decreases-loop-place l = l.count - l.place
+abbrev pub invariant-loop-word : goal.invariant-loop-word
+invariant-loop-word l = Stands l.facts l.literals l.initial.output l.output l.word-index l.at

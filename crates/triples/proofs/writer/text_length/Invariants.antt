@@ -1,11 +1,7 @@
--- `writer::text_length`. The loop's invariant is `Passed`: the text of the words before `at` has `total` bytes. The measure is
--- the number of words left. Assumes nothing.
-use Prim.Native.Nat.{◌-◌}
+-- `writer::text_length`. The loop's invariant is `Passed`: the text of the words before the index has `total` bytes. Assumes
+-- nothing.
 use Rattle.triples.proofs.TextPut.{Passed}
 use Rattle.triples.proofs.writer.text_length.Given as goal
 
-abbrev pub invariant-loop-at : goal.invariant-loop-at
-invariant-loop-at l = Passed l.table l.literals l.at l.total
-
-abbrev pub decreases-loop-at : goal.decreases-loop-at
-decreases-loop-at l = l.count - l.at
+abbrev pub invariant-loop-word : goal.invariant-loop-word
+invariant-loop-word l = Passed l.facts l.literals l.word-index l.total

@@ -3,7 +3,7 @@ use native.Mathlib.Omega.{arith}
 use mathlib.Core.Path.{ap, ◌∙◌}
 use lib.ListN.{take}
 use Rattle.table.specs.Found.{below}
-use Rattle.table.proofs.CountedLaws.{counted_search}
+use Rattle.table.proofs.CutTable.{cut_length, cut_ascending}
 use Rattle.writing.proofs.writer.count_to.Goals as goal
 
 pub word_of-next-requires : goal.word_of-next-requires
@@ -17,8 +17,11 @@ word_of-next-requires c =
       };
     }
 
+pub slice_bounds-count_below-end : goal.slice_bounds-count_below-end
+slice_bounds-count_below-end c = cut_length c.requires.table.counted
+
 pub count_below-requires : goal.count_below-requires
-count_below-requires c = record { table = counted_search c.requires.table.counted }
+count_below-requires c = record { words = cut_ascending c.requires.table.counted }
 
 pub returns : goal.returns
 returns c =

@@ -2,7 +2,7 @@ use native.Mathlib.Omega.{arith}
 use mathlib.Core.Path.{sym, subst}
 use Prim.Native.Nat.{◌+◌}
 use lib.ListN.{length-set}
-use Rattle.contents.specs.Legible.{form_of}
+use Rattle.contents.specs.FormOf.{form_of}
 use Rattle.writing.proofs.EndsLaws.{measured_within, measured_fits}
 use Rattle.writing.proofs.PutParts.{Entered, entered_start, entered_length, entered_more, entered_done}
 use Rattle.writing.proofs.writer.put_contents.Goals as goal
@@ -14,13 +14,10 @@ pub bounds-output-0 : goal.bounds-output-0
 bounds-output-0 c = omega (arith, c.requires.room)
 
 pub overflow_cast-output-2 : goal.overflow_cast-output-2
-overflow_cast-output-2 c = omega (arith, c.requires.ends.form.legible.few)
+overflow_cast-output-2 c = omega (arith, c.args.form.legible.few)
 
 pub bounds-output-1 : goal.bounds-output-1
 bounds-output-1 c = simp length-set (omega (arith, c.requires.room))
-
-pub first_body-start-requires : goal.first_body-start-requires
-first_body-start-requires c = record { form = c.requires.ends.form.legible }
 
 pub loop-done-init : goal.loop-done-init
 loop-done-init c =
@@ -28,10 +25,7 @@ loop-done-init c =
     (entered_start (form_of c.args.form) c.args.ends.now c.args.output.now (omega (arith, c.requires.room)))
 
 pub overflow_add-k : goal.overflow_add-k
-overflow_add-k c = omega (arith, c.loop-done-test.true, c.requires.ends.form.legible.few)
-
-pub fact_size-size-requires : goal.fact_size-size-requires
-fact_size-size-requires c = record { form = c.requires.ends.form.legible }
+overflow_add-k c = omega (arith, c.loop-done-test.true, c.args.form.legible.few)
 
 pub count_of-count-requires-clause-kind : goal.count_of-count-requires-clause-kind
 count_of-count-requires-clause-kind c = (omega arith, omega (arith, c.loop-done-test.true, c.requires.ends.places))
@@ -46,7 +40,6 @@ put_entry-requires c =
       entry = let long = entered_length _ _ c.loop-done.invariant (simp length-set c.requires.room) in
           record {
             entry = record {
-              form = c.requires.ends.form.legible;
               some = omega arith;
               most = omega (arith, c.loop-done-test.true);
               within = omega (arith, simp length-set at long, c.requires.room);
@@ -66,7 +59,7 @@ overflow_mul-start c =
     omega (
       arith,
       measured_fits _ _ c.loop-done.invariant.measured c.requires.ends c.loop-done-test.true _ _
-          c.fact_size-size.ensures.answer c.count_of-count.ensures.answer,
+          c.fact_size.ensures.answer c.count_of-count.ensures.answer,
     )
 
 pub overflow_add-start : goal.overflow_add-start
@@ -74,15 +67,12 @@ overflow_add-start c =
     omega (
       arith,
       measured_fits _ _ c.loop-done.invariant.measured c.requires.ends c.loop-done-test.true _ _
-          c.fact_size-size.ensures.answer c.count_of-count.ensures.answer,
+          c.fact_size.ensures.answer c.count_of-count.ensures.answer,
     )
-
-pub loop-done-smaller : goal.loop-done-smaller
-loop-done-smaller c = omega (arith, c.loop-done-test.true)
 
 pub loop-done-preserved : goal.loop-done-preserved
 loop-done-preserved c =
-    entered_more _ _ c.loop-done.invariant c.loop-done-test.true _ _ c.fact_size-size.ensures.answer
+    entered_more _ _ c.loop-done.invariant c.loop-done-test.true _ _ c.fact_size.ensures.answer
     c.count_of-count.ensures.answer _ c.put_entry.ensures.bytes
 
 pub returns : goal.returns

@@ -1,22 +1,16 @@
 -- `writer::put_entry`: the kind and the bytes per fact, then two fields. Assumes nothing.
 use native.Mathlib.Omega.{arith}
 use lib.ListN.{length-set}
-use Rattle.contents.specs.Legible.{form_of}
+use Rattle.contents.specs.FormOf.{form_of}
 use Rattle.contents.proofs.FormBounds.{entry_inside}
 use Rattle.writing.proofs.PutEntry.{entry_put}
 use Rattle.writing.proofs.writer.put_entry.Goals as goal
 
-pub entry_at-at-requires-clause-form : goal.entry_at-at-requires-clause-form
-entry_at-at-requires-clause-form c = c.requires.entry.entry.form
-
-pub entry_at-at-requires-clause-kind : goal.entry_at-at-requires-clause-kind
-entry_at-at-requires-clause-kind c = (c.requires.entry.entry.some, c.requires.entry.entry.most)
-
-pub fact_size-size-requires : goal.fact_size-size-requires
-fact_size-size-requires c = record { form = c.requires.entry.entry.form }
+pub entry_at-at-requires : goal.entry_at-at-requires
+entry_at-at-requires c = record { kind = (c.requires.entry.entry.some, c.requires.entry.entry.most) }
 
 pub overflow_cast-output : goal.overflow_cast-output
-overflow_cast-output c = omega (arith, c.requires.entry.entry.most, c.requires.entry.entry.form.few)
+overflow_cast-output c = omega (arith, c.requires.entry.entry.most, c.args.form.legible.few)
 
 pub bounds-output-at : goal.bounds-output-at
 bounds-output-at c = omega (arith, entry_inside c.requires.entry.entry, c.entry_at-at.ensures.answer)
