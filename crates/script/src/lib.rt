@@ -1,8 +1,9 @@
 // For a program that runs a script: bytes read in hexadecimal, a line printed; numbers and words of bytes, words
 // copied.
 //
-// The functions serve the program. `put_data` promises that its answer is within what is lent; the others promise
-// nothing. For writing the crate assumes the contracts of the kit's `io`.
+// The functions serve the program. `put_data` promises that its answer is within what is lent, `split_number`
+// which number it answers and what is left; the others promise nothing. For writing the crate assumes the
+// contracts of the kit's `io`.
 #![tactic(auto)]
 
 mod line;

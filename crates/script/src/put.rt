@@ -1,8 +1,15 @@
 // Numbers and words taken from bytes, and words put into lent ones.
+ghost use Rattle.std.specs.Prelude.{◌≡◌, ◌≤◌, ◌<◌, length, take, drop};
+ghost use Rattle.std.specs.Int.{w16, from_be_bytes};
+
 use table::Word;
 
 // The number of the first two bytes, and what is behind them; 0 and nothing where there are not so many.
-pub fn split_number(given: &[u8]) -> (usize, &[u8]) {
+pub fn split_number(given: &[u8]) -> (usize, &[u8])
+    ensures number { 2 ≤ length given.now → result.0 ≡ from_be_bytes w16 (take 2 given.now) }
+    ensures none { length given.now < 2 → result.0 ≡ 0 }
+    ensures behind { result.1.now ≡ drop 2 given.now }
+{
     match given.split_first_chunk::<2>() {
         Some((two, behind)) => (u16::from_be_bytes(*two) as usize, behind),
         None => (0, &[]),
