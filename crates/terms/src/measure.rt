@@ -1,6 +1,6 @@
 // How many bytes terms take.
 ghost use Rattle.std.specs.Prelude.{◌≡◌, length};
-ghost use Rattle.terms.specs.Terms.{decimal, id_term, spelt};
+ghost use Rattle.terms.specs.Terms.{decimal, id_term, spelling};
 
 use crate::term::Term;
 use table::{MARK, RESOURCE, Word};
@@ -32,10 +32,13 @@ fn id_length(n: Word) -> usize
     9 + decimal_length(n)
 }
 
-// The length of a term.
-pub fn term_length(term: Term) -> usize
-    ensures answer { result ≡ length (spelt term) }
+// The length of a term; 0 where there is none.
+pub fn term_length(term: Option<Term>) -> usize
+    ensures answer { result ≡ length (spelling term) }
 {
+    let Some(term) = term else {
+        return 0;
+    };
     match term {
         Term::Id(n) => id_length(n),
         Term::Literal(n) => 2 + decimal_length(n),

@@ -1,7 +1,7 @@
 // Terms put into lent bytes. Each function answers the place after what it put.
 ghost use Rattle.std.specs.Prelude.{◌++◌};
 ghost use Rattle.terms.specs.Terms.{decimal, id_term, spelt};
-ghost use Rattle.terms.specs.Terms.{ended};
+ghost use Rattle.terms.specs.Terms.{ended, spelling};
 ghost use Rattle.terms.specs.Putting.{Room, Puts};
 
 use crate::term::Term;
@@ -90,11 +90,14 @@ fn put_term(output: &mut [u8], at: usize, term: Term) -> usize
     }
 }
 
-// Puts a term and a blank.
-pub fn put_ended(output: &mut [u8], at: usize, term: Term) -> usize
-    requires room { Room output.old at (ended (spelt term)) }
-    ensures bytes { Puts output.old at (ended (spelt term)) output.new result }
+// Puts a term and a blank; where there is no term, the blank alone.
+pub fn put_ended(output: &mut [u8], at: usize, term: Option<Term>) -> usize
+    requires room { Room output.old at (ended (spelling term)) }
+    ensures bytes { Puts output.old at (ended (spelling term)) output.new result }
 {
+    let Some(term) = term else {
+        return put_piece(output, at, b" ");
+    };
     let last = put_term(output, at, term);
     put_piece(output, last, b" ")
 }

@@ -78,9 +78,9 @@ pub fn line_length(word: Word, literal: bool) -> usize
     requires line { T (has_line (fact product.base word)) }
     ensures answer { result ≡ length (line_of (word_line word literal)) }
 {
-    let subject = term_length(Term::Id(first_of(word)));
-    let predicate = term_length(predicate_of(word));
-    let object = term_length(object_of(word, literal));
+    let subject = term_length(Some(Term::Id(first_of(word))));
+    let predicate = term_length(Some(predicate_of(word)));
+    let object = term_length(Some(object_of(word, literal)));
     subject + predicate + object + 5
 }
 
@@ -92,9 +92,9 @@ pub fn put_line(output: &mut [u8], at: usize, word: Word, literal: bool) -> usiz
     ensures bytes { Puts output.old at (line_of (word_line word literal))
         output.new result }
 {
-    let second = put_ended(output, at, Term::Id(first_of(word)));
-    let third = put_ended(output, second, predicate_of(word));
-    let last = put_ended(output, third, object_of(word, literal));
+    let second = put_ended(output, at, Some(Term::Id(first_of(word))));
+    let third = put_ended(output, second, Some(predicate_of(word)));
+    let last = put_ended(output, third, Some(object_of(word, literal)));
     put_piece(output, last, b".\n")
 }
 

@@ -6,5 +6,6 @@ use Rattle.terms.proofs.put.put_ended.Goals as goal
 pub returns : goal.returns
 returns c =
     record {
-      bytes = puts_behind (spelt c.args.term) (bytes " ") c.requires.room c.put_term-last.ensures.bytes c.put_piece.ensures.bytes;
+      bytes = rw c.in-Some.is (puts_behind (spelt c.in-Some.term) (bytes " ") (rw c.in-Some.is at c.requires.room)
+          c.put_term-last.ensures.bytes c.put_piece-2.ensures.bytes);
     }
