@@ -79,11 +79,10 @@ holders_set {H} {P} x y h l free = record {
         ]
 
 -- Of nobody's values one is given to x.
-pub holders_one : {i : ℕ} (n x y : ℕ) → i ≡ y → y < n
-    → Holders (set (replicate n None) i (Some x)) (λ u v. (x ≡ u) × (y ≡ v))
-holders_one n x y e l =
-    subst (λ j. Holders (set (replicate n None) j (Some x)) (λ u v. (x ≡ u) × (y ≡ v))) (sym e) (holders_as (holders_set x y
-    (holders_none n) (omega (arith, length-replicate {A = Option ℕ} n None)) nobody)
+pub holders_one : {i : ℕ} {o : Option ℕ} (n x y : ℕ) → i ≡ y → o ≡ Some x → y < n
+    → Holders (set (replicate n None) i o) (λ u v. (x ≡ u) × (y ≡ v))
+holders_one n x y e d l =
+    rw (e, d) (holders_as (holders_set x y (holders_none n) (omega (arith, length-replicate {A = Option ℕ} n None)) nobody)
     (λ u v. ⊎_elim (λ p. absurd p) (λ q. q)) (λ u v q. inr q))
   where
     nobody : Other (holder (replicate n None) y) x → ⊥

@@ -15,10 +15,11 @@ use Rattle.rdfs.proofs.Lists.Tests.{tests_and, tests_eq, tests_as, tests_agree}
 use Rattle.rdfs.proofs.Lists.ListLaws.{in_cons, none_in, in_filter, filter_in, map_in}
 use Rattle.rdfs.proofs.Words.Allowed.{fields}
 use Rattle.rdfs.proofs.Words.LaidOut.{laid_word_in, laid_allowed, laid_is_fact}
-use Rattle.table.specs.Parts.{kind_of, first_of, second_of, third_of, word_of, Shaped}
+use Rattle.table.specs.Parts.{kind_of, first_of, second_of, third_of, word_of, Shaped, Allowed}
 use Rattle.table.specs.Counted.{Full, Id, facts_of}
 use Rattle.table.proofs.Arity.{one_id, three_ids}
 use Rattle.table.proofs.PartLaws.{word_made}
+use Rattle.table.proofs.FactParts.{word_allowed}
 use Rattle.table.proofs.CountedLaws.{full_filled}
 use Rattle.table.proofs.Filled.{at_in}
 use Rattle.flags.specs.Flagging.{within}
@@ -93,6 +94,10 @@ module _ {t words : List ℕ} {k : ℕ} (w : KindWords t k words) where
 
     pub place_fact : T (is_fact product (get_or words i 0))
     place_fact = laid_is_fact product t w.full.laid (get_or words i 0) stands.0
+
+    pub place_allowed : Allowed product.top (kind_of (get_or words i 0)) (first_of (get_or words i 0))
+        (second_of (get_or words i 0)) (third_of (get_or words i 0))
+    place_allowed = word_allowed (get_or words i 0) place_fact
 
     pub place_kind : kind_of (get_or words i 0) ≡ k
     place_kind = eqb→eq (kind_of (get_or words i 0)) k stands.1

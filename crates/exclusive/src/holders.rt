@@ -1,16 +1,24 @@
 // Who holds which value, and whether another does through a flagged property.
-ghost use Rattle.std.specs.Prelude.{◌<◌, length};
+ghost use Rattle.std.specs.Prelude.{◌≡◌, ◌<◌, Some, length};
 ghost use Rattle.rdfs.specs.Numbers.{product};
 ghost use Rattle.table.specs.Answers.{Decides};
-ghost use Rattle.table.specs.Counted.{Full, facts_of};
+ghost use Rattle.table.specs.Counted.{Full, Id, facts_of};
 ghost use Rattle.flags.specs.Flags.{Whole};
 ghost use Rattle.exclusive.specs.Holders.{Other, Unheld, Filled, HeldOtherwise};
 
 use crate::above::words_of;
 use table::{VALUE, Word, first_of, place, second_of, third_of};
 
-// The individual that holds a value, if one does: an id in a byte.
-pub type Holder = Option<u8>;
+// The individual that holds a value, if one does: 4 bytes, with room for ids up to 65,535.
+pub type Holder = Option<u16>;
+
+// x as a holder: a cast that loses nothing of an id.
+pub fn holder_of(x: Word) -> Holder
+    requires id { Id x }
+    ensures answer { result ≡ Some x }
+{
+    Some(x as u16)
+}
 
 // The holder is somebody, and not x.
 fn is_other(holder: Holder, x: Word) -> bool
@@ -35,7 +43,7 @@ pub fn fill_holders<'a>(facts: &'a [Word], p: Word, holders: &mut [Holder]) -> b
             if is_other(holders[y], x) {
                 return true;
             }
-            holders[y] = Some(x as u8);
+            holders[y] = holder_of(x);
         }
     }
     false

@@ -13,7 +13,7 @@ ghost use Rattle.exclusive.specs.Looked.{Looked};
 
 use above::{flag_exclusive, has_exclusive};
 use flags::IDS;
-use holders::{fill_holders, is_held};
+use holders::{fill_holders, holder_of, is_held};
 use table::{Word, place};
 
 mod above;
@@ -35,7 +35,7 @@ pub fn is_taken(facts: &[Word], a: Word, b: Word, c: Word) -> bool
         return false;
     }
     let mut holders = [None; IDS];
-    holders[place(b)] = Some(a as u8);
+    holders[place(b)] = holder_of(a);
     is_held(facts, &flags, &holders)
 }
 

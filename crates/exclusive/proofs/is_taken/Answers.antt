@@ -39,6 +39,7 @@ returns c =
     record {
       answer = taken_held (facts_of c.args.facts.now) _ c.args.a c.args.b c.args.c
           c.flag_exclusive-above.ensures.flags
-          (holders_one (suc product.top) c.args.a c.args.b c.place.ensures.answer (omega (arith, c.requires.facts.ids.1.0)))
+          (holders_one (suc product.top) c.args.a c.args.b c.place.ensures.answer c.holder_of.ensures.answer
+          (omega (arith, c.requires.facts.ids.1.0)))
           c.is_held.ensures.answer;
     }
